@@ -1,0 +1,3 @@
+mod Filling
+mod Placed
+mod Taken

@@ -1,0 +1,2 @@
+pub mod Notes
+pub mod Places

@@ -1,0 +1,4 @@
+pub mod Appends
+pub mod Groups
+pub mod Fronts
+pub mod Sizes

@@ -1,0 +1,6 @@
+pub mod Parsed
+pub mod Numbers
+pub mod Items
+pub mod Decode
+pub mod Encode
+pub mod Whole
