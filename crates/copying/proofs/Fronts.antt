@@ -1,28 +1,27 @@
 -- the front of a trace that was copied so far, and one record more
-use Prim.Native.Nat.{ℕ, _+_, _-_, _<_, _≤_}
+use Prim.Native.Nat.{ℕ, _+_, _-_, _≤_}
 use denote.Ref.{now}
 use lib.Dec.{leb}
 use lib.ListN.{length, take, drop}
 use mathlib.Core.Bool.{Bool, true, false, cond}
 use mathlib.Core.List.{List, [], _∷_, _++_}
-use mathlib.Core.Path.{_≡_, refl, sym, ap, _∙_, subst}
+use mathlib.Core.Path.{_≡_, refl, sym, ap, _∙_}
 use native.Mathlib.Omega.{arith}
-use Rattle.records.specs.declared.Record.{Record}
 use Rattle.records.specs.declared.Refusal.{Refusal}
 use Rattle.records.specs.declared.Refusal.the-variants.{Limit, Misplaced, Room}
-use Rattle.records.specs.declared.SetupPlace.{SetupPlace}
 use Rattle.records.specs.Encode.{encode, lawful}
-use Rattle.records.specs.Items.{Item, setup, load, store, pass, note}
-use Rattle.reader.specs.Reading.{Outcome, gave, reading, outcome, Written}
+use Rattle.records.specs.Items.{Item}
+use Rattle.reader.specs.Reading.{gave, reading}
 use Rattle.std.proofs.shelf.Lists.{append-assoc, drop-at, drop-drop, joined-more, length-append, length-drop, length-take-le, take-append-drop, take-at}
 use Rattle.std.proofs.shelf.Tests.{leb-true}
-use Rattle.std.specs.declared.option.Option.{Option}
 use Rattle.std.specs.declared.result.Result.{Result}
 use Rattle.std.specs.declared.result.Result.the-variants.{Ok, Err}
 use Rattle.std.specs.shelf.Lists.{joined}
 use Rattle.writer.specs.declared.Writer.{Writer}
 use Rattle.writer.specs.Writing.{misplaced, writing}
-use Rattle.copying.specs.Copied.{Passed, start, further, Behind}
+use Rattle.reader.proofs.Runs.{ends-at}
+use Rattle.reader.specs.Passed.{Passed, start, further}
+use Rattle.copying.specs.Copied.{Behind}
 
 pub record Front (trace : List ℕ) (at : ℕ) (before after : Writer) : Type 0 where
   pub items : List Item
@@ -45,14 +44,6 @@ front-start trace w =
       len = refl;
     }
 
--- a record has a byte at least
-pub encode-some : (item : Item) → 0 < length (encode item)
-encode-some (setup s script bad) = omega arith
-encode-some (load size address) = omega arith
-encode-some (store size address value) = omega arith
-encode-some (pass steps) = omega arith
-encode-some (note bytes) = omega arith
-
 -- a record that was written has had room
 pub writing-fits : (written room : ℕ) (item : Item) → writing written room item ≡ Ok tt → written + length (encode item) ≤ room
 writing-fits written room item e = go (misplaced written item) (lawful item) (leb (written + length (encode item)) room) refl e
@@ -62,11 +53,6 @@ writing-fits written room item e = go (misplaced written item) (lawful item) (le
     go false false b t e = absurd (let z : _≡_ {A = ℕ} 0 1 = cc in omega arith)
     go false true false t e = absurd (let z : _≡_ {A = ℕ} 0 1 = cc in omega arith)
     go false true true t e = leb-true (written + length (encode item)) room t
-
--- where a record ends of which the bytes are known
-pub ends-at : (trace es : List ℕ) (at to : ℕ) → at ≤ length trace → to ≤ length trace → take to trace ≡ take at trace ++ es → to ≡ at + length es
-ends-at trace es at to l u e =
-    sym (length-take-le to trace u) ∙ ap length e ∙ length-append (take at trace) es ∙ ap (λ n. n + length es) (length-take-le at trace l)
 
 -- bytes that are put behind a front of a list
 module _ (p t es : List ℕ) (w : ℕ) (fits : w + length t + length es ≤ length p) where
@@ -132,14 +118,3 @@ module _ (trace : List ℕ) (at to : ℕ) (item : Item) (before mid after : Writ
         };
         len = ap length whole ∙ put-length p0 ts es w0 room;
       }
-
--- what a reader gave, in the terms of the trace that it stands on
-pub gave-there : {T trace : List ℕ} {at′ at : ℕ} (o : Outcome) → T ≡ trace → at′ ≡ at → reading T at′ ≡ o → Written T at′ (reading T at′) → (reading trace at ≡ o) × Written trace at o
-gave-there {T} {trace} {at′} {at} o p q e w = (
-  sym (ap (λ t. reading t at′) p ∙ ap (reading trace) q) ∙ e,
-  subst (λ k. Written trace k o) q (subst (λ t. Written t at′ o) p (subst (λ x. Written T at′ x) e w)),
-)
-
--- a reader's answer under another name
-pub answered : (o o′ : Option Record) (p : SetupPlace) (to : ℕ) (out : Outcome) → outcome (Ok o) p to ≡ out → o ≡ o′ → out ≡ outcome (Ok o′) p to
-answered o o′ p to out e s = sym e ∙ ap (λ x. outcome (Ok x) p to) s

@@ -1,7 +1,7 @@
 use Prim.Native.Nat.{ℕ, _+_}
 use denote.Ref.{now}
 use lib.ListN.{length, take, drop}
-use mathlib.Core.List.{List, [], _∷_, _++_}
+use mathlib.Core.List.{List, _++_}
 use mathlib.Core.Logic.{_⊎_}
 use mathlib.Core.Path.{_≡_}
 use Rattle.records.specs.declared.Refusal.{Refusal}
@@ -9,17 +9,13 @@ use Rattle.records.specs.Encode.{encode}
 use Rattle.records.specs.Items.{Item}
 use Rattle.records.specs.Whole.{Trace}
 use Rattle.reader.specs.declared.refused.Refused.{Refused}
+use Rattle.reader.specs.Passed.{Passed}
 use Rattle.reader.specs.Reading.{reading, gave, refused}
 use Rattle.std.specs.declared.result.Result.{Result}
 use Rattle.std.specs.declared.result.Result.the-variants.{Ok, Err}
 use Rattle.std.specs.shelf.Lists.{joined}
 use Rattle.writer.specs.declared.Writer.{Writer}
 use Rattle.writer.specs.Writing.{writing}
-
--- the records of a trace from its front up to a place, read one after the other
-pub data Passed (trace : List ℕ) : ℕ → List Item → Type 0 where
-  start : Passed trace 0 []
-  further : {at to : ℕ} {item : Item} {items : List Item} → Passed trace at items → reading trace at ≡ gave item to → Passed trace to (items ++ (item ∷ []))
 
 -- the bytes before a place of a trace stand written behind what a writer held, and nothing else of its place has changed
 pub record Behind (trace : List ℕ) (at : ℕ) (before after : Writer) : Type 0 where

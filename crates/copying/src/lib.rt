@@ -2,7 +2,6 @@
 ghost use Rattle.copying.specs.Copied.{Copied};
 use reader::Reader;
 use reader::Refused;
-use records::BadLine;
 use records::SetupPlace;
 use writer::Writer;
 
@@ -12,11 +11,7 @@ pub fn copy(trace: &[u8], writer: &mut Writer<'_>) -> Result<(), Refused>
     ensures { λ r. ⌜ Copied (now (trace .entry)) (now (writer .entry)) (now (writer .exit)) r ⌝ }
 {
     let mut reader = Reader::new(trace);
-    let none = BadLine { line: 0, cause: 0 };
-    let mut place = SetupPlace {
-        script: [0; 64],
-        bad: [none; 32],
-    };
+    let mut place = SetupPlace::empty();
     let mut at = 0;
     while let Some(record) = reader.next(&mut place)? {
         if let Err(refusal) = writer.write(&record, &place) {

@@ -2,12 +2,13 @@ ghost use Prim.Native.Nat.{_-_, _≤_};
 ghost use Rattle.decoding.specs.Places.{setup-onto, fields-onto, record-onto};
 ghost use Rattle.decoding.specs.Notes.{Noted};
 ghost use Rattle.records.specs.Decode.{load-fields, store-fields, pass-fields, note-fields};
-ghost use Rattle.records.specs.Encode.{encode};
+ghost use Rattle.records.specs.Encode.{encode, lawful};
 ghost use Rattle.records.specs.Items.{item-of};
 ghost use Rattle.records.specs.Parsed.{parsed, parsed-as};
 ghost use Rattle.std.specs.Vec.{made};
 ghost use denote.Ref.{now as at-now};
 ghost use lib.ListN.{length};
+ghost use mathlib.Core.Bool.{true};
 ghost use mathlib.Core.List.{_++_};
 ghost use mathlib.Core.Path.{_≡_};
 use crate::fields::read_bad_lines;
@@ -128,7 +129,7 @@ pub(crate) fn read_front(
     requires { ⌜ length (now bytes) ≤ end ⌝ }
     ensures value { λ r. ⌜ parsed-as (λ s. (item-of (s .0) (s .1), s .1)) r ≡ record-onto place first (now (bytes .entry)) ⌝ }
     ensures noted { λ r. ⌜ made r (λ s. Noted (s .0 .0) (end - length (at-now (s .1)))) ⌝ }
-    ensures written { λ r. ⌜ made r (λ s. now (bytes .entry) ≡ encode (item-of (s .0 .0) (s .0 .1)) ++ at-now (s .1)) ⌝ }
+    ensures written { λ r. ⌜ made r (λ s. (now (bytes .entry) ≡ encode (item-of (s .0 .0) (s .0 .1)) ++ at-now (s .1)) × (lawful (item-of (s .0 .0) (s .0 .1)) ≡ true)) ⌝ }
 {
     let [kind, fields @ ..] = bytes else {
         return Err(Refusal::Truncated);

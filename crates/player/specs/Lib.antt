@@ -1,1 +1,2 @@
-pub mod Playing
+pub mod Counts
+pub mod Listing

@@ -1,1 +1,2 @@
 mod Next
+pub mod Runs

@@ -56,6 +56,7 @@ bad-lines (suc k) bs = andThen (bad-line bs) (λ b rest. andThen (bad-lines k re
 abbrev pub is-side : ℕ → Bool
 is-side n = eqb n 1 || (eqb n 2 || (eqb n 4 || eqb n 8))
 
+-- such a number, read
 abbrev pub side : List ℕ → Parsed ℕ
 side bs = andThen (number bs) (λ n rest. cond (is-side n) (Took n rest) (Refuses Limit))
 
@@ -63,6 +64,7 @@ side bs = andThen (number bs) (λ n rest. cond (is-side n) (Took n rest) (Refuse
 abbrev pub rule-of : ℕ → Rule
 rule-of n = cond (eqb n 1) Lru Fifo
 
+-- a cache level: its sets, its ways and its rule
 abbrev pub level : List ℕ → Parsed Level
 level bs =
     andThen (side bs) (λ sets rest.
@@ -80,9 +82,11 @@ levels bs =
     andThen (level rest) (λ lowest rest.
     andThen (upper count rest) (λ second rest. Took (lowest, second) rest)))
 
+-- a setup out of its fields
 abbrev pub setup-of : ℕ → Bottom × List ℕ → ℕ → List BadLine → Level × Option Level → Item
 setup-of lines b count bad l = setup (record { lines = lines; bottom = b .0; bad = count; lowest = l .0; upper = l .1 }) (b .1) bad
 
+-- the fields of a setup: lines, bottom memory, bad lines and levels
 abbrev pub setup-fields : List ℕ → Parsed Item
 setup-fields bs =
     andThen (number-within 1 4096 bs) (λ lines rest.
@@ -91,17 +95,20 @@ setup-fields bs =
     andThen (bad-lines count rest) (λ bad rest.
     andThen (levels rest) (λ l rest. Took (setup-of lines b count bad l) rest)))))
 
+-- the fields of a load: size and address
 abbrev pub load-fields : List ℕ → Parsed Item
 load-fields bs =
     andThen (number-within 0 255 bs) (λ size rest.
     andThen (number-within 0 (2 ^ 32 - 1) rest) (λ address rest. Took (load size address) rest))
 
+-- the fields of a store: size, address and value
 abbrev pub store-fields : List ℕ → Parsed Item
 store-fields bs =
     andThen (number-within 0 255 bs) (λ size rest.
     andThen (number-within 0 (2 ^ 32 - 1) rest) (λ address rest.
     andThen (number rest) (λ value rest. Took (store size address value) rest)))
 
+-- the field of a pass: its steps
 abbrev pub pass-fields : List ℕ → Parsed Item
 pass-fields bs = andThen (number-within 1 1000 bs) (λ steps rest. Took (pass steps) rest)
 
@@ -113,6 +120,7 @@ printable = within 32 126
 abbrev pub text : ℕ → List ℕ → Parsed (List ℕ)
 text n bs = andThen (plain n bs) (λ bytes rest. cond (each printable bytes) (Took bytes rest) (Refuses Limit))
 
+-- the fields of a note: length and text
 abbrev pub note-fields : List ℕ → Parsed Item
 note-fields bs = andThen (number-within 0 60 bs) (λ n rest. andThen (text n rest) (λ bytes rest. Took (note bytes) rest))
 

@@ -16,10 +16,12 @@ use Rattle.records.specs.Items.{Item, setup, load, store, pass, note}
 use Rattle.records.specs.Numbers.{spelled, within}
 use Rattle.records.specs.Decode.{each, zero-byte, is-side, printable}
 
+-- the memory at the bottom: 1 and its latency, or 2, the length of its script and the script
 abbrev pub bottom-bytes : Bottom → List ℕ → List ℕ
 bottom-bytes (Ordered latency) script = spelled 1 ++ spelled latency
 bottom-bytes (Scripted length) script = spelled 2 ++ (spelled length ++ script)
 
+-- a bad line and its cause
 abbrev pub bad-line-bytes : BadLine → List ℕ
 bad-line-bytes b = spelled (b .line) ++ spelled (b .cause)
 
@@ -28,6 +30,7 @@ abbrev pub rule-number : Rule → ℕ
 rule-number Lru = 1
 rule-number Fifo = 2
 
+-- the sets, the ways and the rule of a level
 abbrev pub level-bytes : Level → List ℕ
 level-bytes l = spelled (l .sets) ++ (spelled (l .ways) ++ spelled (rule-number (l .rule)))
 
@@ -49,16 +52,20 @@ abbrev pub lawful-bottom : Bottom → List ℕ → Bool
 lawful-bottom (Ordered latency) script = within 1 64 latency && eqb (length script) 0
 lawful-bottom (Scripted n) script = within 1 64 n && (eqb (length script) n && not (each zero-byte script))
 
+-- whether a bad line and its cause are within their limits
 abbrev pub lawful-bad-line : BadLine → Bool
 lawful-bad-line b = within 0 4095 (b .line) && within 0 255 (b .cause)
 
+-- whether each bad line is
 abbrev pub lawful-bad-lines : List BadLine → Bool
 lawful-bad-lines [] = true
 lawful-bad-lines (b ∷ bs) = lawful-bad-line b && lawful-bad-lines bs
 
+-- whether the sets and ways of a level are some that a geometry has
 abbrev pub lawful-level : Level → Bool
 lawful-level l = is-side (l .sets) && is-side (l .ways)
 
+-- whether a second level, if there is one, is within its limits
 abbrev pub lawful-upper : Option Level → Bool
 lawful-upper None = true
 lawful-upper (Some l) = lawful-level l
@@ -71,6 +78,7 @@ lawful (store size address value) = within 0 255 size && (within 0 (2 ^ 32 - 1) 
 lawful (pass steps) = within 1 1000 steps
 lawful (note bytes) = within 0 60 (length bytes) && each printable bytes
 
+-- whether a record is a setup
 abbrev pub is-setup : Item → Bool
 is-setup (setup s script bad) = true
 is-setup (load size address) = false

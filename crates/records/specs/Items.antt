@@ -1,6 +1,6 @@
 use Prim.Native.Nat.{ℕ}
 use mathlib.Core.List.{List, []}
-use lib.ListN.{take}
+use lib.ListN.{replicate, take}
 use denote.Ref.{now}
 use Rattle.records.specs.declared.Bottom.{Bottom}
 use Rattle.records.specs.declared.Bottom.the-variants.{Ordered, Scripted}
@@ -30,3 +30,7 @@ item-of (Load size address) p = load size address
 item-of (Store size address value) p = store size address value
 item-of (Pass steps) p = pass steps
 item-of (Note text place) p = note (now text)
+
+-- a place of zeros
+abbrev pub empty-place : SetupPlace
+empty-place = record { script = replicate 64 0; bad = replicate 32 (record { line = 0; cause = 0 }) }

@@ -17,6 +17,7 @@ abbrev pub or-refused : Option ℕ → List ℕ → Parsed ℕ
 or-refused (Some n) rest = Took n rest
 or-refused None rest = Refuses Number
 
+-- a number with a group of seven bits below it, and the bytes after it
 abbrev pub below : ℕ → ℕ → List ℕ → Parsed ℕ
 below low high rest = or-refused (grouped high low) rest
 

@@ -30,5 +30,6 @@ abbrev pub parsed-as : {X Y : Type 0} → (X → Y) → Result (X × RefT (List 
 parsed-as view (Ok p) = Took (view (p .0)) (p .1 .now)
 parsed-as view (Err r) = Refuses r
 
+-- the same with the value as it is
 abbrev pub parsed : {X : Type 0} → Result (X × RefT (List ℕ)) Refusal → Parsed X
 parsed r = parsed-as (λ x. x) r

@@ -1,5 +1,6 @@
 //! The records of a trace: their types, and the numbers that their fields are written in.
 
+ghost use Rattle.records.specs.Items.{empty-place};
 ghost use Rattle.records.specs.Parsed.{refusal-code};
 ghost use mathlib.Core.Path.{_≡_};
 
@@ -86,6 +87,19 @@ pub struct Setup {
 pub struct SetupPlace {
     pub script: [u8; 64],
     pub bad: [BadLine; 32],
+}
+
+impl SetupPlace {
+    /// A place of zeros, for the first setup to go into.
+    pub fn empty() -> SetupPlace
+        ensures { λ r. ⌜ r ≡ empty-place ⌝ }
+    {
+        let none = BadLine { line: 0, cause: 0 };
+        SetupPlace {
+            script: [0; 64],
+            bad: [none; 32],
+        }
+    }
 }
 
 /// A record of a trace.

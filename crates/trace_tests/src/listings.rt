@@ -1,23 +1,6 @@
 //! Traces with the listings that another simulator gives for them, played through the player.
-use player::Event;
-use player::Player;
-use std::alloc::AllocError;
-use std::alloc::Global;
+use player::play;
 use std::test::*;
-
-// The listing of a trace of fewer than a thousand records.
-fn listing(heap: Global, trace: &[u8]) -> Result<Vec<u8>, AllocError> {
-    let mut bytes = Vec::new(heap);
-    let mut player = Player::new(trace);
-    for _ in 0..1000 {
-        match player.next() {
-            Event::Line(line) => bytes.extend_from_slice(line.text().as_slice())?,
-            Event::Quiet => {}
-            Event::Over => break,
-        }
-    }
-    Ok(bytes)
-}
 
 const VECTORS: [(&[u8], &[u8]); 15] = [
     // empty
@@ -82,7 +65,7 @@ const VECTORS: [(&[u8], &[u8]); 15] = [
 #[test]
 fn listings_agree(rt: LibcRuntime) -> Result<(), Fail> {
     for (trace, wanted) in VECTORS {
-        let played = listing(rt.alloc(), trace)?;
+        let played = play(trace, Vec::new(rt.alloc()))?;
         check(played.as_slice() == wanted)?;
     }
     Ok(())

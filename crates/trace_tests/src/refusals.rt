@@ -1,6 +1,5 @@
 //! Each refusal of reader and writer, met once.
 use reader::Reader;
-use records::BadLine;
 use records::Bottom;
 use records::Level;
 use records::Record;
@@ -13,18 +12,10 @@ use records::SetupPlace;
 use std::test::*;
 use writer::Writer;
 
-fn empty_place() -> SetupPlace {
-    let none = BadLine { line: 0, cause: 0 };
-    SetupPlace {
-        script: [0; 64],
-        bad: [none; 32],
-    }
-}
-
 // The number of the refusal at which reading stops, and the place that it tells.
 fn refusal(trace: &[u8]) -> Option<(u8, usize)> {
     let mut reader = Reader::new(trace);
-    let mut place = empty_place();
+    let mut place = SetupPlace::empty();
     for _ in 0..10 {
         match reader.next(&mut place) {
             Ok(Some(_)) => {}
@@ -69,7 +60,7 @@ const SMALLEST: Setup = Setup {
 
 #[test]
 fn writer_refuses() -> Result<(), Fail> {
-    let place = empty_place();
+    let place = SetupPlace::empty();
     let mut bytes = [7; 10];
     let mut writer = Writer::new(&mut bytes);
     check_eq(

@@ -8,8 +8,8 @@ use Rattle.reader.specs.Reading.{gave, ended}
 use Rattle.std.proofs.shelf.Lists.{take-all}
 use Rattle.std.specs.declared.option.Option.the-variants.{Some, None}
 use Rattle.copying.specs.Copied.{Behind}
-use Rattle.copying.proofs.Fronts.{Front, front-start, front-further, writing-fits, encode-some, ends-at, gave-there, answered}
-use Rattle.copying.proofs.Traces.{passed-whole}
+use Rattle.reader.proofs.Runs.{encode-some, ends-at, gave-there, answered, passed-whole}
+use Rattle.copying.proofs.Fronts.{Front, front-start, front-further, writing-fits}
 use Rattle.copying.proofs.copy.Needs as need
 
 pub loop-record-holds : need.loop-record-holds

@@ -21,7 +21,7 @@ returns-then-is-over c =
     }
 
 pub sub-self : need.sub-self
-sub-self c = omega (arith, read-length (c .args .self .now .trace .now) (c .args .self .now .place) (omega arith) (item-of (c .in-Ok .record) (c .in-Ok .filled)) (c .in-Ok .rest .now) (c .in-Ok .ensures tt .written))
+sub-self c = omega (arith, read-length (c .args .self .now .trace .now) (c .args .self .now .place) (omega arith) (item-of (c .in-Ok .record) (c .in-Ok .filled)) (c .in-Ok .rest .now) (c .in-Ok .ensures tt .written .0))
 
 pub returns-in-Ok : need.returns-in-Ok
 returns-in-Ok c =
@@ -35,7 +35,7 @@ returns-in-Ok c =
       after = search needs;
       filled = search needs;
       noted = c .in-Ok .ensures tt .noted;
-      written = gave-written trace at (omega arith) item (c .in-Ok .rest .now) (c .in-Ok .ensures tt .written) (g .0);
+      written = gave-written trace at (omega arith) item (c .in-Ok .rest .now) (c .in-Ok .ensures tt .written .0) (c .in-Ok .ensures tt .written .1) (g .0);
     }
 
 pub returns-in-Err : need.returns-in-Err

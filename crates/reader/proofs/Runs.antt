@@ -1,23 +1,50 @@
--- the records that were read up to the end are those of the whole trace
-use Prim.Native.Nat.{ℕ, _+_, _-_, _<_}
+-- records that are read one after the other, up to the end of the trace
+use Prim.Native.Nat.{ℕ, _+_, _-_, _<_, _≤_}
 use lib.Dec.{eqb}
-use lib.ListN.{length, drop}
+use lib.ListN.{length, take, drop}
 use mathlib.Core.Bool.{Bool, true, false, cond, not}
 use mathlib.Core.List.{List, [], _∷_, _++_}
 use mathlib.Core.Path.{_≡_, refl, sym, ap, _∙_, subst}
 use native.Mathlib.Omega.{arith}
+use Rattle.std.proofs.shelf.Lists.{append-assoc, append-nil, drop-all, drop-at, drop-drop, getD-drop, length-append, length-drop, length-take-le}
+use Rattle.std.proofs.shelf.Tests.{and-parts, ne-eqb, not-true}
+use Rattle.std.specs.declared.option.Option.{Option}
+use Rattle.std.specs.declared.result.Result.the-variants.{Ok}
+use Rattle.records.specs.declared.Record.{Record}
+use Rattle.records.specs.declared.SetupPlace.{SetupPlace}
 use Rattle.records.specs.Decode.{decode}
 use Rattle.records.specs.Encode.{encode}
-use Rattle.records.specs.Items.{Item}
+use Rattle.records.specs.Items.{Item, setup, load, store, pass, note}
 use Rattle.records.specs.Parsed.{Parsed, Took, Refuses}
 use Rattle.records.specs.Whole.{Reads, finished, another, Trace}
 use Rattle.records.proofs.Laws.{decode-back}
 use Rattle.records.proofs.Spelled.{Bytes}
-use Rattle.reader.specs.Reading.{ended, gave, at-place, ends, reading}
-use Rattle.std.proofs.shelf.Lists.{append-assoc, append-nil, drop-all, drop-at, drop-drop, getD-drop, length-append, length-drop}
-use Rattle.std.proofs.shelf.Tests.{and-parts, ne-eqb, not-true}
-use Rattle.copying.specs.Copied.{Passed, start, further}
-use Rattle.copying.proofs.Fronts.{encode-some}
+use Rattle.reader.specs.Passed.{Passed, start, further}
+use Rattle.reader.specs.Reading.{Outcome, ended, gave, at-place, ends, reading, outcome, Written}
+
+-- a record has a byte at least
+pub encode-some : (item : Item) → 0 < length (encode item)
+encode-some (setup s script bad) = omega arith
+encode-some (load size address) = omega arith
+encode-some (store size address value) = omega arith
+encode-some (pass steps) = omega arith
+encode-some (note bytes) = omega arith
+
+-- what a reader gave, in the terms of the trace that it stands on
+pub gave-there : {T trace : List ℕ} {at′ at : ℕ} (o : Outcome) → T ≡ trace → at′ ≡ at → reading T at′ ≡ o → Written T at′ (reading T at′) → (reading trace at ≡ o) × Written trace at o
+gave-there {T} {trace} {at′} {at} o p q e w = (
+  sym (ap (λ t. reading t at′) p ∙ ap (reading trace) q) ∙ e,
+  subst (λ k. Written trace k o) q (subst (λ t. Written t at′ o) p (subst (λ x. Written T at′ x) e w)),
+)
+
+-- a reader's answer under another name
+pub answered : (o o′ : Option Record) (p : SetupPlace) (to : ℕ) (out : Outcome) → outcome (Ok o) p to ≡ out → o ≡ o′ → out ≡ outcome (Ok o′) p to
+answered o o′ p to out e s = sym e ∙ ap (λ x. outcome (Ok x) p to) s
+
+-- where a record ends of which the bytes are known
+pub ends-at : (trace es : List ℕ) (at to : ℕ) → at ≤ length trace → to ≤ length trace → take to trace ≡ take at trace ++ es → to ≡ at + length es
+ends-at trace es at to l u e =
+    sym (length-take-le to trace u) ∙ ap length e ∙ length-append (take at trace) es ∙ ap (λ n. n + length es) (length-take-le at trace l)
 
 -- a record that was given was taken off the bytes there
 given-there : (trace : List ℕ) (at : ℕ) (item : Item) (to : ℕ) (b : Bool) (p : Parsed Item) → cond b ended (at-place trace at p) ≡ gave item to → (rest : List ℕ) × (p ≡ Took item rest) × (to ≡ length trace - length rest)

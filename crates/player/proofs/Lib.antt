@@ -1,0 +1,3 @@
+mod Short
+mod Lines
+mod Runs
