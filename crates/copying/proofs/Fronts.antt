@@ -9,7 +9,7 @@ use mathlib.Core.Path.{_≡_, refl, sym, ap, _∙_}
 use native.Mathlib.Omega.{arith}
 use Rattle.records.specs.declared.Refusal.{Refusal}
 use Rattle.records.specs.declared.Refusal.the-variants.{Limit, Misplaced, Room}
-use Rattle.records.specs.Encode.{encode, lawful}
+use Rattle.records.specs.Encode.{encode, in-limits}
 use Rattle.records.specs.Items.{Item}
 use Rattle.reader.specs.Reading.{gave, reading}
 use Rattle.std.proofs.shelf.Lists.{append-assoc, drop-at, drop-drop, joined-more, length-append, length-drop, length-take-le, take-append-drop, take-at}
@@ -46,7 +46,7 @@ front-start trace w =
 
 -- a record that was written has had room
 pub writing-fits : (written room : ℕ) (item : Item) → writing written room item ≡ Ok tt → written + length (encode item) ≤ room
-writing-fits written room item e = go (misplaced written item) (lawful item) (leb (written + length (encode item)) room) refl e
+writing-fits written room item e = go (misplaced written item) (in-limits item) (leb (written + length (encode item)) room) refl e
   where
     go : (m l b : Bool) → leb (written + length (encode item)) room ≡ b → _≡_ {A = Result (Unit {0}) Refusal} (cond m (Err Misplaced) (cond l (cond b (Ok tt) (Err Room)) (Err Limit))) (Ok tt) → written + length (encode item) ≤ room
     go true l b t e = absurd (let z : _≡_ {A = ℕ} 0 1 = cc in omega arith)

@@ -1,8 +1,8 @@
-ghost use Prim.Native.Nat.{_-_, _≤_};
-ghost use Rattle.decoding.specs.Places.{setup-onto, fields-onto, record-onto};
+ghost use Prim.Native.Nat.{_-_, _<_, _≤_};
+ghost use Rattle.decoding.specs.Places.{filled, setup-onto, fields-onto, record-onto};
 ghost use Rattle.decoding.specs.Notes.{Noted};
-ghost use Rattle.records.specs.Decode.{load-fields, store-fields, pass-fields, note-fields};
-ghost use Rattle.records.specs.Encode.{encode, lawful};
+ghost use Rattle.records.specs.Decode.{fields, load-fields, store-fields, pass-fields, note-fields};
+ghost use Rattle.records.specs.Encode.{encode, in-limits};
 ghost use Rattle.records.specs.Items.{item-of};
 ghost use Rattle.records.specs.Parsed.{parsed, parsed-as};
 ghost use Rattle.std.specs.Vec.{made};
@@ -94,6 +94,28 @@ fn read_note(bytes: &[u8], place: SetupPlace, end: usize) -> Result<(Record<'_>,
     Ok((Record::Note { text, place }, rest))
 }
 
+// The fields of a record that is no setup.
+fn read_request(
+    kind: u8,
+    bytes: &[u8],
+    place: SetupPlace,
+    end: usize,
+) -> Result<(Record<'_>, &[u8]), Refusal>
+    requires { ⌜ 0 < kind ⌝ }
+    requires { ⌜ kind ≤ 4 ⌝ }
+    requires { ⌜ length (now bytes) ≤ end ⌝ }
+    ensures value { λ r. ⌜ parsed-as (λ s. item-of s place) r ≡ fields kind (now (bytes .entry)) ⌝ }
+    ensures filled { λ r. ⌜ made r (λ s. filled place (item-of (s .0) place) ≡ place) ⌝ }
+    ensures noted { λ r. ⌜ made r (λ s. Noted (s .0) (end - length (at-now (s .1)))) ⌝ }
+{
+    match kind {
+        1 => read_load(bytes, place),
+        2 => read_store(bytes, place),
+        3 => read_pass(bytes, place),
+        _ => read_note(bytes, place, end),
+    }
+}
+
 // The fields of a record of that kind, and the caller's place after them.
 fn read_fields(
     kind: u8,
@@ -110,12 +132,7 @@ fn read_fields(
         let ((setup, filled), rest) = read_setup(bytes, place)?;
         return Ok(((Record::Setup(setup), filled), rest));
     }
-    let (record, rest) = match kind {
-        1 => read_load(bytes, place)?,
-        2 => read_store(bytes, place)?,
-        3 => read_pass(bytes, place)?,
-        _ => read_note(bytes, place, end)?,
-    };
+    let (record, rest) = read_request(kind, bytes, place, end)?;
     Ok(((record, place), rest))
 }
 
@@ -129,7 +146,7 @@ pub(crate) fn read_front(
     requires { ⌜ length (now bytes) ≤ end ⌝ }
     ensures value { λ r. ⌜ parsed-as (λ s. (item-of (s .0) (s .1), s .1)) r ≡ record-onto place first (now (bytes .entry)) ⌝ }
     ensures noted { λ r. ⌜ made r (λ s. Noted (s .0 .0) (end - length (at-now (s .1)))) ⌝ }
-    ensures written { λ r. ⌜ made r (λ s. (now (bytes .entry) ≡ encode (item-of (s .0 .0) (s .0 .1)) ++ at-now (s .1)) × (lawful (item-of (s .0 .0) (s .0 .1)) ≡ true)) ⌝ }
+    ensures written { λ r. ⌜ made r (λ s. (now (bytes .entry) ≡ encode (item-of (s .0 .0) (s .0 .1)) ++ at-now (s .1)) × (in-limits (item-of (s .0 .0) (s .0 .1)) ≡ true)) ⌝ }
 {
     let [kind, fields @ ..] = bytes else {
         return Err(Refusal::Truncated);

@@ -1,7 +1,7 @@
 //! The record at a place of a trace.
 ghost use Rattle.decoding.specs.Notes.{Noted};
 ghost use Rattle.decoding.specs.Places.{record-onto};
-ghost use Rattle.records.specs.Encode.{encode, lawful};
+ghost use Rattle.records.specs.Encode.{encode, in-limits};
 ghost use Rattle.records.specs.Items.{item-of};
 ghost use Rattle.records.specs.Parsed.{parsed-as};
 ghost use Rattle.std.specs.Vec.{made};
@@ -30,7 +30,7 @@ pub fn read_record(
 ) -> Result<((Record<'_>, SetupPlace), &[u8]), Refusal>
     ensures value { λ r. ⌜ parsed-as (λ s. (item-of (s .0) (s .1), s .1)) r ≡ record-onto place (eqb at 0) (drop at (now (trace .entry))) ⌝ }
     ensures noted { λ r. ⌜ made r (λ s. Noted (s .0 .0) (length (now (trace .entry)) - length (at-now (s .1)))) ⌝ }
-    ensures written { λ r. ⌜ made r (λ s. (drop at (now (trace .entry)) ≡ encode (item-of (s .0 .0) (s .0 .1)) ++ at-now (s .1)) × (lawful (item-of (s .0 .0) (s .0 .1)) ≡ true)) ⌝ }
+    ensures written { λ r. ⌜ made r (λ s. (drop at (now (trace .entry)) ≡ encode (item-of (s .0 .0) (s .0 .1)) ++ at-now (s .1)) × (in-limits (item-of (s .0 .0) (s .0 .1)) ≡ true)) ⌝ }
 {
     if at > trace.len() {
         return Err(Refusal::Truncated);

@@ -19,7 +19,7 @@ use Rattle.records.specs.declared.Bottom.the-variants.{Ordered, Scripted}
 use Rattle.records.specs.declared.BadLine.{BadLine}
 use Rattle.records.specs.declared.Setup.{Setup}
 use Rattle.records.specs.Decode.{each, zero-byte, printable}
-use Rattle.records.specs.Encode.{bottom-bytes, bad-line-bytes, rule-number, level-bytes, levels-bytes, encode, lawful-bottom, lawful}
+use Rattle.records.specs.Encode.{bottom-bytes, bad-line-bytes, rule-number, level-bytes, levels-bytes, encode, bottom-in-limits, in-limits}
 use Rattle.records.specs.Items.{Item, setup, load, store, pass, note}
 use Rattle.records.specs.Numbers.{groups, spelled, within}
 
@@ -41,7 +41,7 @@ spelled-size n = groups-size 9 n
 within-high : (low high n : ℕ) → within low high n ≡ true → n ≤ high
 within-high low high n h = leb-true n high (and-parts (leb low n) (leb n high) h .1)
 
-script-size : (b : Bottom) (script : List ℕ) → lawful-bottom b script ≡ true → length script ≤ 64
+script-size : (b : Bottom) (script : List ℕ) → bottom-in-limits b script ≡ true → length script ≤ 64
 script-size (Ordered n) script h =
     let none : length script ≡ 0 = eqb-true (length script) 0 (and-parts (within 1 64 n) (eqb (length script) 0) h .1) in
     omega arith
@@ -77,10 +77,10 @@ levels-size lowest None =
     omega arith
 levels-size lowest (Some second) = both (spelled 2) (level-bytes lowest ++ level-bytes second) 10 60 (spelled-size 2) (both (level-bytes lowest) (level-bytes second) 30 30 (level-size lowest) (level-size second))
 
-setup-size : (s : Setup) (script : List ℕ) (bad : List BadLine) → lawful (setup s script bad) ≡ true → length (encode (setup s script bad)) ≤ 1024
+setup-size : (s : Setup) (script : List ℕ) (bad : List BadLine) → in-limits (setup s script bad) ≡ true → length (encode (setup s script bad)) ≤ 1024
 setup-size s script bad h =
     let f1 = and-parts (within 1 4096 (s .lines)) _ h in
-    let f2 = and-parts (lawful-bottom (s .bottom) script) _ (f1 .1) in
+    let f2 = and-parts (bottom-in-limits (s .bottom) script) _ (f1 .1) in
     let f3 = and-parts (within 0 32 (s .bad)) _ (f2 .1) in
     let count : length bad ≡ s .bad = eqb-true (length bad) (s .bad) (and-parts (eqb (length bad) (s .bad)) _ (f3 .1) .0) in
     let few : s .bad ≤ 32 = within-high 0 32 (s .bad) (f3 .0) in
@@ -96,7 +96,7 @@ setup-size s script bad h =
     (both (joined bad-line-bytes bad) e4 640 70 (omega arith) (levels-size (s .lowest) (s .upper))))) in
     omega arith
 
-encode-size : (item : Item) → lawful item ≡ true → length (encode item) ≤ 1024
+encode-size : (item : Item) → in-limits item ≡ true → length (encode item) ≤ 1024
 encode-size (setup s script bad) h = setup-size s script bad h
 encode-size (load size address) h =
     let fields : length (spelled size ++ spelled address) ≤ 20 = both (spelled size) (spelled address) 10 10 (spelled-size size) (spelled-size address) in
@@ -114,5 +114,5 @@ encode-size (note bytes) h =
     omega arith
 
 -- so a buffer keeps all of it
-pub kept-encode : (item : Item) {h : List ℕ} → h ≡ kept (encode item) → lawful item ≡ true → h ≡ encode item
+pub kept-encode : (item : Item) {h : List ℕ} → h ≡ kept (encode item) → in-limits item ≡ true → h ≡ encode item
 kept-encode item e h = e ∙ kept-all (encode item) (encode-size item h)

@@ -3,7 +3,7 @@ ghost use mathlib.Core.Bool.{true};
 ghost use mathlib.Core.List.{_++_};
 ghost use mathlib.Core.Path.{_≡_};
 ghost use Rattle.buffer.specs.Held.{held, kept};
-ghost use Rattle.records.specs.Encode.{encode, lawful};
+ghost use Rattle.records.specs.Encode.{encode, in-limits};
 ghost use Rattle.records.specs.Items.{item-of};
 use crate::number::push_number;
 use crate::setup::push_setup;
@@ -51,7 +51,7 @@ fn push_record(buffer: &mut Buffer, record: &Record<'_>, place: &SetupPlace)
 /// The first 1,024 bytes of a record whose script and bad lines lie in that place: all of its bytes, if its fields are within their limits.
 pub fn encoded(record: &Record<'_>, place: &SetupPlace) -> Buffer
     ensures first { λ r. ⌜ held r ≡ kept (encode (item-of (now («record» .entry)) (now (place .entry)))) ⌝ }
-    ensures all { λ r. ⌜ (lawful (item-of (now («record» .entry)) (now (place .entry))) ≡ true → held r ≡ encode (item-of (now («record» .entry)) (now (place .entry)))) ⌝ }
+    ensures all { λ r. ⌜ (in-limits (item-of (now («record» .entry)) (now (place .entry))) ≡ true → held r ≡ encode (item-of (now («record» .entry)) (now (place .entry)))) ⌝ }
 {
     let mut buffer = Buffer::new();
     push_record(&mut buffer, record, place);

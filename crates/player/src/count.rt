@@ -1,7 +1,7 @@
 ghost use Prim.Native.Nat.{_≤_};
 ghost use Rattle.listing.specs.Shown.{shown, ended-line, refused-fields, end-fields};
 ghost use Rattle.player.specs.Counts.{start-count, line-bytes, request-line, item-line, item-goes};
-ghost use Rattle.records.specs.Encode.{lawful};
+ghost use Rattle.records.specs.Encode.{in-limits};
 ghost use Rattle.records.specs.Items.{item-of};
 ghost use lib.ListN.{length};
 ghost use mathlib.Core.Bool.{true};
@@ -34,7 +34,7 @@ impl Count {
     // The line that a record shows, which then counts. A setup's script and bad lines lie in that place.
     pub(crate) fn take<'a>(&mut self, next: Record<'a>, place: &SetupPlace) -> Option<Line<'a>>
         ensures line { λ r. ⌜ line-bytes r ≡ item-line (now (self .entry) .lines) (now (self .entry) .«record») (item-of (next .entry) (now (place .entry))) ⌝ }
-        ensures short { λ r. ⌜ (lawful (item-of (next .entry) (now (place .entry))) ≡ true → length (line-bytes r) ≤ 64) ⌝ }
+        ensures short { λ r. ⌜ (in-limits (item-of (next .entry) (now (place .entry))) ≡ true → length (line-bytes r) ≤ 64) ⌝ }
         ensures after { λ _. ⌜ now (self .exit) ≡ item-goes (now (self .entry)) (item-of (next .entry) (now (place .entry))) ⌝ }
     {
         let index = self.record;

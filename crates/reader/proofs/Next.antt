@@ -11,7 +11,7 @@ use Rattle.std.proofs.shelf.Tests.{and-parts, eqb-true}
 use Rattle.records.specs.declared.Refusal.{Refusal}
 use Rattle.records.specs.declared.SetupPlace.{SetupPlace}
 use Rattle.records.specs.Decode.{decode}
-use Rattle.records.specs.Encode.{encode, lawful}
+use Rattle.records.specs.Encode.{encode, in-limits}
 use Rattle.records.specs.Items.{Item}
 use Rattle.records.specs.Parsed.{Parsed, Took, Refuses, andThen}
 use Rattle.records.proofs.Laws.{came}
@@ -52,7 +52,7 @@ module _ (trace : List ℕ) (at : ℕ) (in-trace : at ≤ length trace) where
       let m : length (drop at trace) ≡ length trace - at = length-drop at trace in
       omega arith
 
-  pub gave-written : (item : Item) (rest : List ℕ) → drop at trace ≡ encode item ++ rest → lawful item ≡ true → reading trace at ≡ gave item (length trace - length rest) → Written trace at (reading trace at)
+  pub gave-written : (item : Item) (rest : List ℕ) → drop at trace ≡ encode item ++ rest → in-limits item ≡ true → reading trace at ≡ gave item (length trace - length rest) → Written trace at (reading trace at)
   gave-written item rest d ok e =
       let s = read-length item rest d in
       let to : length trace - length rest ≡ at + length (encode item) = omega arith in

@@ -12,7 +12,7 @@ use Rattle.records.specs.declared.Record.{Record}
 use Rattle.records.specs.declared.Refusal.{Refusal}
 use Rattle.records.specs.declared.SetupPlace.{SetupPlace}
 use Rattle.records.specs.Decode.{decode}
-use Rattle.records.specs.Encode.{encode, lawful}
+use Rattle.records.specs.Encode.{encode, in-limits}
 use Rattle.records.specs.Items.{Item, item-of}
 use Rattle.records.specs.Parsed.{Parsed, Took, Refuses}
 use Rattle.reader.specs.declared.refused.Refused.{Refused}
@@ -65,5 +65,5 @@ NotedIn (Err e) to = Unit {0}
 -- the bytes that were read are those that the record is written as, and the record is within its limits; the end is the trace's end
 abbrev pub Written : List ℕ → ℕ → Outcome → Type 0
 Written trace at ended = at ≡ length trace
-Written trace at (gave item to) = (to ≤ length trace) × (take to trace ≡ take at trace ++ encode item) × (lawful item ≡ true)
+Written trace at (gave item to) = (to ≤ length trace) × (take to trace ≡ take at trace ++ encode item) × (in-limits item ≡ true)
 Written trace at (refused r place) = place ≡ at

@@ -6,7 +6,7 @@ use mathlib.Core.List.{List, [], _∷_, _++_, append-assoc}
 use Rattle.std.proofs.shelf.Lists.{append-nil}
 use Rattle.std.specs.shelf.Lists.{joined}
 use Rattle.records.specs.Decode.{decode}
-use Rattle.records.specs.Encode.{encode, lawful, is-setup}
+use Rattle.records.specs.Encode.{encode, in-limits, is-setup}
 use Rattle.records.specs.Items.{Item}
 use Rattle.records.specs.Parsed.{Took}
 use Rattle.records.specs.Whole.{Reads, finished, another, Trace}
@@ -28,15 +28,15 @@ decoded-before f bs item rest more h e =
     ∙ ap (λ b. decode b (encode item ++ (rest ++ more))) (sym (d .2))
     ∙ decode-forth item (rest ++ more) (d .1)
 
-one-record : (f : Bool) (item : Item) → lawful item ≡ true → is-setup item ≡ f → Reads f (encode item) (item ∷ [])
+one-record : (f : Bool) (item : Item) → in-limits item ≡ true → is-setup item ≡ f → Reads f (encode item) (item ∷ [])
 one-record f item l s = another (ap (λ b. decode b (encode item)) (sym s) ∙ ap (decode (is-setup item)) (sym (append-nil (encode item))) ∙ decode-forth item [] l) finished
 
 -- a trace begins with a setup
-pub reads-first : (item : Item) → lawful item ≡ true → is-setup item ≡ true → Trace (encode item) (item ∷ [])
+pub reads-first : (item : Item) → in-limits item ≡ true → is-setup item ≡ true → Trace (encode item) (item ∷ [])
 reads-first item l s = one-record true item l s
 
 -- one record more, which is no setup
-pub reads-more : {f : Bool} {bs : List ℕ} {items : List Item} (item : Item) → Bytes bs → Reads f bs items → lawful item ≡ true → is-setup item ≡ false → Reads f (bs ++ encode item) (items ++ (item ∷ []))
+pub reads-more : {f : Bool} {bs : List ℕ} {items : List Item} (item : Item) → Bytes bs → Reads f bs items → in-limits item ≡ true → is-setup item ≡ false → Reads f (bs ++ encode item) (items ++ (item ∷ []))
 reads-more item h finished l s = one-record false item l s
 reads-more item h (another {first} {bs} {rest} {item = i} {items} e more) l s =
     let d = decode-back first bs h i rest e in

@@ -48,35 +48,35 @@ encode (pass steps) = 3 ∷ spelled steps
 encode (note bytes) = 4 ∷ (spelled (length bytes) ++ bytes)
 
 -- whether a setup's memory is one that a trace can name, with its script
-abbrev pub lawful-bottom : Bottom → List ℕ → Bool
-lawful-bottom (Ordered latency) script = within 1 64 latency && eqb (length script) 0
-lawful-bottom (Scripted n) script = within 1 64 n && (eqb (length script) n && not (each zero-byte script))
+abbrev pub bottom-in-limits : Bottom → List ℕ → Bool
+bottom-in-limits (Ordered latency) script = within 1 64 latency && eqb (length script) 0
+bottom-in-limits (Scripted n) script = within 1 64 n && (eqb (length script) n && not (each zero-byte script))
 
 -- whether a bad line and its cause are within their limits
-abbrev pub lawful-bad-line : BadLine → Bool
-lawful-bad-line b = within 0 4095 (b .line) && within 0 255 (b .cause)
+abbrev pub bad-line-in-limits : BadLine → Bool
+bad-line-in-limits b = within 0 4095 (b .line) && within 0 255 (b .cause)
 
 -- whether each bad line is
-abbrev pub lawful-bad-lines : List BadLine → Bool
-lawful-bad-lines [] = true
-lawful-bad-lines (b ∷ bs) = lawful-bad-line b && lawful-bad-lines bs
+abbrev pub bad-lines-in-limits : List BadLine → Bool
+bad-lines-in-limits [] = true
+bad-lines-in-limits (b ∷ bs) = bad-line-in-limits b && bad-lines-in-limits bs
 
 -- whether the sets and ways of a level are some that a geometry has
-abbrev pub lawful-level : Level → Bool
-lawful-level l = is-side (l .sets) && is-side (l .ways)
+abbrev pub level-in-limits : Level → Bool
+level-in-limits l = is-side (l .sets) && is-side (l .ways)
 
 -- whether a second level, if there is one, is within its limits
-abbrev pub lawful-upper : Option Level → Bool
-lawful-upper None = true
-lawful-upper (Some l) = lawful-level l
+abbrev pub upper-in-limits : Option Level → Bool
+upper-in-limits None = true
+upper-in-limits (Some l) = level-in-limits l
 
 -- whether every field of a record is within its limits
-abbrev pub lawful : Item → Bool
-lawful (setup s script bad) = within 1 4096 (s .lines) && (lawful-bottom (s .bottom) script && (within 0 32 (s .bad) && (eqb (length bad) (s .bad) && (lawful-bad-lines bad && (lawful-level (s .lowest) && lawful-upper (s .upper))))))
-lawful (load size address) = within 0 255 size && within 0 (2 ^ 32 - 1) address
-lawful (store size address value) = within 0 255 size && (within 0 (2 ^ 32 - 1) address && within 0 (2 ^ 64 - 1) value)
-lawful (pass steps) = within 1 1000 steps
-lawful (note bytes) = within 0 60 (length bytes) && each printable bytes
+abbrev pub in-limits : Item → Bool
+in-limits (setup s script bad) = within 1 4096 (s .lines) && (bottom-in-limits (s .bottom) script && (within 0 32 (s .bad) && (eqb (length bad) (s .bad) && (bad-lines-in-limits bad && (level-in-limits (s .lowest) && upper-in-limits (s .upper))))))
+in-limits (load size address) = within 0 255 size && within 0 (2 ^ 32 - 1) address
+in-limits (store size address value) = within 0 255 size && (within 0 (2 ^ 32 - 1) address && within 0 (2 ^ 64 - 1) value)
+in-limits (pass steps) = within 1 1000 steps
+in-limits (note bytes) = within 0 60 (length bytes) && each printable bytes
 
 -- whether a record is a setup
 abbrev pub is-setup : Item → Bool

@@ -13,7 +13,7 @@ use Rattle.std.specs.declared.result.Result.the-variants.{Ok, Err}
 use Rattle.records.specs.declared.Refusal.{Refusal}
 use Rattle.records.specs.declared.Refusal.the-variants.{Limit, Misplaced, Room}
 use Rattle.records.specs.Decode.{decode}
-use Rattle.records.specs.Encode.{encode, lawful, is-setup}
+use Rattle.records.specs.Encode.{encode, in-limits, is-setup}
 use Rattle.records.specs.Items.{Item}
 use Rattle.records.specs.Whole.{Reads, finished, another, Trace}
 use Rattle.records.proofs.Spelled.{Bytes, never}
@@ -40,11 +40,11 @@ had-room written room bytes e = go (leb (written + length bytes) room) refl e
     go false h e = absurd (let z : _≡_ {A = ℕ} 0 1 = cc in omega arith)
 
 -- a record in its place and within its limits is added
-accepted : (written room : ℕ) (item : Item) {r : Result (Unit {0}) Refusal} → misplaced written item ≡ false → lawful item ≡ true → r ≡ adding written room (encode item) → r ≡ writing written room item
+accepted : (written room : ℕ) (item : Item) {r : Result (Unit {0}) Refusal} → misplaced written item ≡ false → in-limits item ≡ true → r ≡ adding written room (encode item) → r ≡ writing written room item
 accepted written room item well ok e =
     e
     ∙ sym (ap (λ b. cond b (adding written room (encode item)) (Err Limit)) ok)
-    ∙ sym (ap (λ b. cond b (Err Misplaced) (cond (lawful item) (adding written room (encode item)) (Err Limit))) well)
+    ∙ sym (ap (λ b. cond b (Err Misplaced) (cond (in-limits item) (adding written room (encode item)) (Err Limit))) well)
 
 -- the front of a place up to the end of what was put there
 front-after : (written : ℕ) (bytes place : List ℕ) → written + length bytes ≤ length place → take (written + length bytes) (place-after (Ok tt) written bytes place) ≡ take written place ++ bytes
@@ -55,7 +55,7 @@ front-after written bytes place h =
     ap (take (written + length bytes)) (sym (append-assoc (take written place) bytes rest))
     ∙ take-at (take written place ++ bytes) rest (written + length bytes) long
 
-module _ (written : ℕ) (place : List ℕ) (item : Item) (well : misplaced written item ≡ false) (ok : lawful item ≡ true) where
+module _ (written : ℕ) (place : List ℕ) (item : Item) (well : misplaced written item ≡ false) (ok : in-limits item ≡ true) where
   first-in : written ≡ 0 → (b : Bool) → is-setup item ≡ b → cond b (ltb 0 written) (eqb written 0) ≡ false → Trace (take written place ++ encode item) (item ∷ [])
   first-in z true s m = subst (λ n. Trace (take n place ++ encode item) (item ∷ [])) (sym z) (reads-first item ok s)
   first-in z false s m = absurd (false≢true (sym m ∙ ap (λ n. eqb n 0) z))

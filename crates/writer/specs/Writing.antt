@@ -8,7 +8,7 @@ use Rattle.std.specs.declared.result.Result.{Result}
 use Rattle.std.specs.declared.result.Result.the-variants.{Ok, Err}
 use Rattle.records.specs.declared.Refusal.{Refusal}
 use Rattle.records.specs.declared.Refusal.the-variants.{Limit, Misplaced, Room}
-use Rattle.records.specs.Encode.{encode, lawful, is-setup}
+use Rattle.records.specs.Encode.{encode, in-limits, is-setup}
 use Rattle.records.specs.Items.{Item}
 use Rattle.records.specs.Whole.{Trace}
 
@@ -24,7 +24,7 @@ adding written room bytes = cond (leb (written + length bytes) room) (Ok tt) (Er
 abbrev pub writing : ℕ → ℕ → Item → Result (Unit {0}) Refusal
 writing written room item =
     cond (misplaced written item) (Err Misplaced)
-    (cond (lawful item) (adding written room (encode item)) (Err Limit))
+    (cond (in-limits item) (adding written room (encode item)) (Err Limit))
 
 -- how many bytes stand written once these were added or refused
 abbrev pub written-after : Result (Unit {0}) Refusal → ℕ → List ℕ → ℕ

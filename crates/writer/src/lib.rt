@@ -7,7 +7,7 @@ ghost use Rattle.std.specs.Vec.{made};
 ghost use Rattle.records.specs.Encode.{encode};
 ghost use Rattle.records.specs.Items.{item-of};
 ghost use Rattle.writer.specs.Writing.{misplaced, adding, writing, written-after, place-after, Grows};
-use crate::limits::lawful_record;
+use crate::limits::record_in_limits;
 use encoding::encoded;
 use records::Record;
 use records::Refusal;
@@ -77,7 +77,7 @@ impl<'a> Writer<'a> {
         if is_misplaced(record, from) {
             return Err(Refusal::Misplaced);
         }
-        if !lawful_record(record, setup) {
+        if !record_in_limits(record, setup) {
             return Err(Refusal::Limit);
         }
         let bytes = encoded(record, setup);

@@ -1,7 +1,7 @@
 //! Whether each field of a record is within its limits.
 ghost use mathlib.Core.Path.{_≡_};
 ghost use Rattle.records.specs.Decode.{is-side};
-ghost use Rattle.records.specs.Encode.{lawful-bottom, lawful-bad-line, lawful-bad-lines, lawful-level, lawful-upper, lawful};
+ghost use Rattle.records.specs.Encode.{bottom-in-limits, bad-line-in-limits, bad-lines-in-limits, level-in-limits, upper-in-limits, in-limits};
 ghost use Rattle.records.specs.Items.{item-of, script-of};
 ghost use Rattle.records.specs.Numbers.{within};
 use encoding::front::front;
@@ -27,24 +27,24 @@ fn is_side(n: u8) -> bool
     n == 1 || n == 2 || n == 4 || n == 8
 }
 
-fn lawful_level(level: &Level) -> bool
-    ensures { λ r. ⌜ r ≡ lawful-level (now (level .entry)) ⌝ }
+fn level_in_limits(level: &Level) -> bool
+    ensures { λ r. ⌜ r ≡ level-in-limits (now (level .entry)) ⌝ }
 {
     is_side(level.sets) && is_side(level.ways)
 }
 
-fn lawful_upper(upper: &Option<Level>) -> bool
-    ensures { λ r. ⌜ r ≡ lawful-upper (now (upper .entry)) ⌝ }
+fn upper_in_limits(upper: &Option<Level>) -> bool
+    ensures { λ r. ⌜ r ≡ upper-in-limits (now (upper .entry)) ⌝ }
 {
     match upper {
         None => true,
-        Some(level) => lawful_level(level),
+        Some(level) => level_in_limits(level),
     }
 }
 
 // The script stands in these bytes.
-fn lawful_bottom(bottom: &Bottom, bytes: &[u8; 64]) -> bool
-    ensures { λ r. ⌜ r ≡ lawful-bottom (now (bottom .entry)) (script-of (now (bottom .entry)) (now (bytes .entry))) ⌝ }
+fn bottom_in_limits(bottom: &Bottom, bytes: &[u8; 64]) -> bool
+    ensures { λ r. ⌜ r ≡ bottom-in-limits (now (bottom .entry)) (script-of (now (bottom .entry)) (now (bytes .entry))) ⌝ }
 {
     match *bottom {
         Bottom::Ordered { latency } => lies_within(1, 64, latency as u64),
@@ -54,40 +54,40 @@ fn lawful_bottom(bottom: &Bottom, bytes: &[u8; 64]) -> bool
     }
 }
 
-fn lawful_bad_line(b: &BadLine) -> bool
-    ensures { λ r. ⌜ r ≡ lawful-bad-line (now (b .entry)) ⌝ }
+fn bad_line_in_limits(b: &BadLine) -> bool
+    ensures { λ r. ⌜ r ≡ bad-line-in-limits (now (b .entry)) ⌝ }
 {
     lies_within(0, 4095, b.line as u64) && lies_within(0, 255, b.cause as u64)
 }
 
-fn lawful_bad_lines(bad: &[BadLine]) -> bool
-    ensures { λ r. ⌜ r ≡ lawful-bad-lines (now (bad .entry)) ⌝ }
+fn bad_lines_in_limits(bad: &[BadLine]) -> bool
+    ensures { λ r. ⌜ r ≡ bad-lines-in-limits (now (bad .entry)) ⌝ }
 {
     for b in bad {
-        if !lawful_bad_line(b) {
+        if !bad_line_in_limits(b) {
             return false;
         }
     }
     true
 }
 
-fn lawful_setup(setup: &Setup, place: &SetupPlace) -> bool
-    ensures { λ r. ⌜ r ≡ lawful (item-of (Record.Setup (now (setup .entry))) (now (place .entry))) ⌝ }
+fn setup_in_limits(setup: &Setup, place: &SetupPlace) -> bool
+    ensures { λ r. ⌜ r ≡ in-limits (item-of (Record.Setup (now (setup .entry))) (now (place .entry))) ⌝ }
 {
     lies_within(1, 4096, setup.lines as u64)
-        && lawful_bottom(&setup.bottom, &place.script)
+        && bottom_in_limits(&setup.bottom, &place.script)
         && setup.bad <= 32
-        && lawful_bad_lines(front(&place.bad, setup.bad as usize))
-        && lawful_level(&setup.lowest)
-        && lawful_upper(&setup.upper)
+        && bad_lines_in_limits(front(&place.bad, setup.bad as usize))
+        && level_in_limits(&setup.lowest)
+        && upper_in_limits(&setup.upper)
 }
 
 /// Whether every field of a record is within its limits; a setup's script and bad lines lie in that place.
-pub fn lawful_record(record: &Record<'_>, place: &SetupPlace) -> bool
-    ensures { λ r. ⌜ r ≡ lawful (item-of (now («record» .entry)) (now (place .entry))) ⌝ }
+pub fn record_in_limits(record: &Record<'_>, place: &SetupPlace) -> bool
+    ensures { λ r. ⌜ r ≡ in-limits (item-of (now («record» .entry)) (now (place .entry))) ⌝ }
 {
     match *record {
-        Record::Setup(setup) => lawful_setup(&setup, place),
+        Record::Setup(setup) => setup_in_limits(&setup, place),
         Record::Load { size, address } => {
             lies_within(0, 255, size as u64) && lies_within(0, u32::MAX as u64, address as u64)
         }

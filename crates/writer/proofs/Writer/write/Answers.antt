@@ -6,7 +6,7 @@ use Rattle.writer.proofs.Writer.write.Needs as need
 
 pub returns : need.returns
 returns c =
-    let ok = sym (c .if-not-lawful-record .ensures tt) in
+    let ok = sym (c .if-not-record-in-limits .ensures tt) in
     let put = c .in-Continue-put .ensures tt in
     let all =
     written-whole (c .args .self .now .written) (c .args .self .now .place .now) (item-of (c .args .record .now) (c .args .setup .now))

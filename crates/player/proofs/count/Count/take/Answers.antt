@@ -4,7 +4,7 @@ use lib.ListN.{length}
 use borrow.Author.Needs.{needs}
 use native.Mathlib.Omega.{arith}
 use Rattle.records.specs.Decode.{each, printable}
-use Rattle.records.specs.Encode.{lawful}
+use Rattle.records.specs.Encode.{in-limits}
 use Rattle.records.specs.Items.{item-of}
 use Rattle.records.specs.Numbers.{within}
 use Rattle.std.proofs.shelf.Tests.{and-parts, leb-true}
@@ -16,7 +16,7 @@ returns-in-Note c = record {
   line = search needs;
   short = λ h.
       (let text = c .in-Note .text .now in
-      let k = ap (λ r. lawful (item-of r (c .args .place .now))) (sym (c .in-Note .is)) ∙ h in
+      let k = ap (λ r. in-limits (item-of r (c .args .place .now))) (sym (c .in-Note .is)) ∙ h in
       let p = and-parts (within 0 60 (length text)) (each printable text) k in
       note-short text (leb-true (length text) 60 (and-parts (leb 0 (length text)) (leb (length text) 60) (p .0) .1)));
   after = search needs;
