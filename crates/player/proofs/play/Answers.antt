@@ -1,7 +1,8 @@
 use Prim.Native.Nat.{_+_, _*_, _≤_}
 use lib.ListN.{length}
 use mathlib.Core.List.{_++_}
-use mathlib.Core.Path.{refl, ap, _∙_, subst}
+use mathlib.Core.Path.{_≡_, refl, ap, _∙_, subst}
+use borrow.Author.Needs.{needs}
 use native.Mathlib.Omega.{arith}
 use Rattle.buffer.proofs.Kept.{kept-all}
 use Rattle.buffer.specs.Held.{kept}
@@ -19,7 +20,8 @@ pub returns : need.returns
 returns c =
     let short : length (shown (c .end-line .result)) ≤ 64 = c .end-line .ensures .short in
     let last = kept-all (shown (c .end-line .result)) (omega arith) ∙ c .end-line .ensures .line in
-    let after = c .in-Continue-push-line-2 .ensures tt .items ∙ ap (λ xs. vec-items (c .match-refusal .bytes) ++ xs) last in
+    let pushed = c .in-Continue-push-line-2 .ensures tt .items ∙ ap (λ xs. vec-items (c .match-refusal .bytes) ++ xs) last in
+    let after : vec-items (c .push-line-2 .last .bytes) ≡ vec-items (c .match-refusal .bytes) ++ ended-line (end-fields 0 (c .in-Continue-bytes .count .steps)) = search (needs, pushed) in
     record {
       succeeds = λ h. refl;
       listing = elim (c .match-refusal .came) [
