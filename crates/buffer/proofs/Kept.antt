@@ -9,7 +9,7 @@ use mathlib.Core.Path.{_≡_, refl, sym, ap, _∙_}
 use native.Mathlib.Omega.{arith}
 use Rattle.buffer.specs.declared.Buffer.{Buffer}
 use Rattle.buffer.specs.Held.{held, kept}
-use Rattle.std.proofs.shelf.Lists.{take-all, length-take, length-take-le}
+use Rattle.std.proofs.shelf.Lists.{append-assoc, take-all, length-take, length-take-le}
 use Rattle.std.proofs.shelf.Parts.{take-putMid}
 use Rattle.std.proofs.shelf.Tests.{cases-lt}
 
@@ -29,6 +29,10 @@ kept-kept a b = take-again 1024 a b
 -- one append after another: h was kept of xs, and ys are appended to it
 pub kept-more : {h g : List ℕ} (xs ys : List ℕ) → h ≡ kept xs → g ≡ kept (h ++ ys) → g ≡ kept (xs ++ ys)
 kept-more xs ys before after = after ∙ ap (λ zs. kept (zs ++ ys)) before ∙ kept-kept xs ys
+
+-- the same behind what was held before
+pub appended : {g k : List ℕ} (h a b : List ℕ) → g ≡ kept (h ++ a) → k ≡ kept (g ++ b) → k ≡ kept (h ++ (a ++ b))
+appended h a b first second = kept-more (h ++ a) b first second ∙ ap kept (append-assoc h a b)
 
 take-min : (m : ℕ) (ys : List ℕ) → take (min (length ys) m) ys ≡ take m ys
 take-min m ys =

@@ -56,9 +56,6 @@ writing-fits written room item e = go (misplaced written item) (in-limits item) 
 
 -- bytes that are put behind a front of a list
 module _ (p t es : List ℕ) (w : ℕ) (fits : w + length t + length es ≤ length p) where
-  front : List ℕ
-  front = take w p ++ t
-
   front-length : length (take w p ++ t) ≡ w + length t
   front-length = length-append (take w p) t ∙ ap (λ n. n + length t) (length-take-le w p (omega arith))
 

@@ -8,7 +8,7 @@ use native.Mathlib.Omega.{arith}
 use Rattle.buffer.specs.Held.{kept}
 use Rattle.records.specs.Numbers.{groups, spelled}
 use Rattle.records.proofs.Spelled.{reach, groups-one, groups-more}
-use Rattle.encoding.proofs.Appends.{appended}
+use Rattle.buffer.proofs.Kept.{appended}
 
 -- a group to spare is not written
 groups-spare : (k n : ℕ) → n < reach k → groups k n ≡ groups (suc k) n

@@ -1,4 +1,3 @@
-pub mod Appends
 pub mod Groups
 pub mod Fronts
 pub mod Sizes

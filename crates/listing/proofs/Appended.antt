@@ -4,13 +4,9 @@ use lib.Chars.{codes}
 use mathlib.Core.List.{List, [], _∷_, _++_, append-assoc}
 use mathlib.Core.Path.{_≡_, sym, ap, _∙_}
 use Rattle.buffer.specs.Held.{kept}
-use Rattle.buffer.proofs.Kept.{kept-more}
+use Rattle.buffer.proofs.Kept.{appended, kept-more}
 use Rattle.std.proofs.shelf.Decimals.{decimal-digit, decimal-step}
 use Rattle.std.specs.Written.{decimal}
-
--- `first`, and then `next`, to what held `was`
-appended : {mid end : List ℕ} (was first next : List ℕ) → mid ≡ kept (was ++ first) → end ≡ kept (mid ++ next) → end ≡ kept (was ++ (first ++ next))
-appended was first next before after = kept-more (was ++ first) next before after ∙ ap kept (append-assoc was first next)
 
 -- a number of one digit
 pub digit : (was end : List ℕ) (n : ℕ) → n < 10 → end ≡ kept (was ++ (48 + n) ∷ []) → end ≡ kept (was ++ decimal n)

@@ -1,5 +1,5 @@
 -- what the records that were read so far have shown
-use Prim.Native.Nat.{ℕ, _+_, _*_, _<_, _≤_}
+use Prim.Native.Nat.{ℕ, _+_, _*_, _^_, _<_, _≤_}
 use lib.ListN.{length}
 use mathlib.Core.List.{List, [], _∷_, _++_}
 use mathlib.Core.Path.{_≡_, sym, ap, _∙_, subst}
@@ -9,12 +9,13 @@ use Rattle.records.specs.declared.Refusal.{Refusal}
 use Rattle.records.specs.Items.{Item}
 use Rattle.records.specs.Parsed.{refusal-code}
 use Rattle.std.proofs.shelf.Lists.{append-assoc, length-append}
+use Rattle.std.specs.declared.option.Option.{Option}
 use Rattle.std.specs.declared.option.Option.the-variants.{Some, None}
 use Rattle.reader.specs.Passed.{Passed, start, further}
 use Rattle.reader.specs.Reading.{reading, gave}
 use Rattle.player.specs.declared.count.Count.{Count}
 use Rattle.player.specs.Counts.{limited, item-line, item-goes, start-count}
-use Rattle.player.specs.Listing.{lines-of, lines-last, count-of, last-line, Played, Listing, whole, cut}
+use Rattle.player.specs.Listing.{lines-of, steps-of, lines-last, count-of, last-line, Played, Listing, whole, cut}
 use Rattle.player.proofs.Lines.{lines-more, count-more}
 
 pub record Shown-so-far (trace : List ℕ) (at : ℕ) (bytes : List ℕ) (count : Count) : Type 0 where
@@ -44,6 +45,20 @@ shown-further trace at to item bytes bytes′ count count′ s e b c lt short =
   where
     zero-first : (n : ℕ) → n ≡ 0 + n
     zero-first n = omega arith
+
+-- counts are numbers of 64 bits
+small : (items : List Item) (count : Count) → count ≡ count-of items → (count .«record» < 2 ^ 64) × (count .steps < 2 ^ 64)
+small items count c =
+    let r : count .«record» ≡ limited (length items) = ap (λ k. k .«record») c in
+    let s : count .steps ≡ limited (steps-of items) = ap (λ k. k .steps) c in
+    (omega arith, omega arith)
+
+pub index-small : {trace bytes : List ℕ} {at : ℕ} {count : Count} → Shown-so-far trace at bytes count → count .«record» < 2 ^ 64
+index-small {count = count} s = small (s .items) count (s .counts) .0
+
+pub counts-small : (trace bytes : List ℕ) (count : Count) (o : Option Refusal) → Played trace bytes count o → (count .«record» < 2 ^ 64) × (count .steps < 2 ^ 64)
+counts-small trace bytes count None (items, t, b, c) = small items count c
+counts-small trace bytes count (Some r) (items, at, p, x, b, c) = small items count c
 
 -- the lines of all records and then the last line, or a refusal's line before it
 pub whole-listing : (trace bytes after : List ℕ) (count : Count) → Played trace bytes count None → after ≡ bytes ++ ended-line (end-fields 0 (count .steps)) → Listing trace after

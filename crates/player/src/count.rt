@@ -1,10 +1,6 @@
-ghost use Prim.Native.Nat.{_≤_};
 ghost use Rattle.listing.specs.Shown.{shown, ended-line, refused-fields, end-fields};
 ghost use Rattle.player.specs.Counts.{start-count, line-bytes, request-line, item-line, item-goes};
-ghost use Rattle.records.specs.Encode.{in-limits};
 ghost use Rattle.records.specs.Items.{item-of};
-ghost use lib.ListN.{length};
-ghost use mathlib.Core.Bool.{true};
 ghost use mathlib.Core.Path.{_≡_};
 use listing::Line;
 use records::Record;
@@ -34,7 +30,6 @@ impl Count {
     // The line that a record shows, which then counts. A setup's script and bad lines lie in that place.
     pub(crate) fn take<'a>(&mut self, next: Record<'a>, place: &SetupPlace) -> Option<Line<'a>>
         ensures line { λ r. ⌜ line-bytes r ≡ item-line (now (self .entry) .lines) (now (self .entry) .«record») (item-of (next .entry) (now (place .entry))) ⌝ }
-        ensures short { λ r. ⌜ (in-limits (item-of (next .entry) (now (place .entry))) ≡ true → length (line-bytes r) ≤ 64) ⌝ }
         ensures after { λ _. ⌜ now (self .exit) ≡ item-goes (now (self .entry)) (item-of (next .entry) (now (place .entry))) ⌝ }
     {
         let index = self.record;
@@ -64,8 +59,7 @@ impl Count {
 
 // The line of a record that is refused.
 pub(crate) fn refused_line<'a>(index: u64, code: u8) -> Line<'a>
-    ensures line { λ r. ⌜ shown r ≡ ended-line (refused-fields index code) ⌝ }
-    ensures short { λ r. ⌜ length (shown r) ≤ 64 ⌝ }
+    ensures { λ r. ⌜ shown r ≡ ended-line (refused-fields index code) ⌝ }
 {
     Line::Refused {
         record: index,
@@ -75,16 +69,14 @@ pub(crate) fn refused_line<'a>(index: u64, code: u8) -> Line<'a>
 
 // The last line.
 pub(crate) fn end_line<'a>(steps: u64) -> Line<'a>
-    ensures line { λ r. ⌜ shown r ≡ ended-line (end-fields 0 steps) ⌝ }
-    ensures short { λ r. ⌜ length (shown r) ≤ 64 ⌝ }
+    ensures { λ r. ⌜ shown r ≡ ended-line (end-fields 0 steps) ⌝ }
 {
     Line::End { accepted: 0, steps }
 }
 
 // What a request shows: its refusal, if it is not lawful.
 fn answered<'a>(index: u64, answer: Result<(), request::Refusal>) -> Option<Line<'a>>
-    ensures line { λ r. ⌜ line-bytes r ≡ request-line index answer ⌝ }
-    ensures short { λ r. ⌜ length (line-bytes r) ≤ 64 ⌝ }
+    ensures { λ r. ⌜ line-bytes r ≡ request-line index answer ⌝ }
 {
     match answer {
         Ok(()) => None,

@@ -3,7 +3,6 @@ ghost use Rattle.buffer.specs.Held.{kept};
 ghost use Rattle.listing.specs.Shown.{shown};
 ghost use Rattle.player.specs.Counts.{item-line, item-goes};
 ghost use Rattle.player.specs.Listing.{Listing, Played};
-ghost use Rattle.records.specs.Encode.{in-limits};
 ghost use Rattle.records.specs.Items.{item-of};
 ghost use Prim.Native.Nat.{_+_, _*_, _<_, _≤_};
 ghost use lib.ListN.{length};
@@ -42,11 +41,10 @@ fn push_record(
     next: Record<'_>,
     place: &SetupPlace,
 ) -> Result<(), AllocError>
-    ensures items { λ r. ⌜ (in-limits (item-of (next .entry) (now (place .entry))) ≡ true → vec-items (now (bytes .exit)) ≡ cond (isOk r) (vec-items (now (bytes .entry)) ++ item-line (now (count .entry) .lines) (now (count .entry) .«record») (item-of (next .entry) (now (place .entry)))) (vec-items (now (bytes .entry)))) ⌝ }
-    ensures short { λ _. ⌜ (in-limits (item-of (next .entry) (now (place .entry))) ≡ true → length (item-line (now (count .entry) .lines) (now (count .entry) .«record») (item-of (next .entry) (now (place .entry)))) ≤ 64) ⌝ }
+    ensures items { λ r. ⌜ vec-items (now (bytes .exit)) ≡ cond (isOk r) (vec-items (now (bytes .entry)) ++ kept (item-line (now (count .entry) .lines) (now (count .entry) .«record») (item-of (next .entry) (now (place .entry))))) (vec-items (now (bytes .entry))) ⌝ }
     ensures after { λ _. ⌜ now (count .exit) ≡ item-goes (now (count .entry)) (item-of (next .entry) (now (place .entry))) ⌝ }
     ensures capacity { λ _. ⌜ vec-cap (now (bytes .entry)) ≤ vec-cap (now (bytes .exit)) ⌝ }
-    ensures full { λ r. ⌜ (in-limits (item-of (next .entry) (now (place .entry))) ≡ true → refused r (λ _. vec-cap (now (bytes .entry)) < vec-len (now (bytes .entry)) + 64)) ⌝ }
+    ensures full { λ r. ⌜ refused r (λ _. vec-cap (now (bytes .entry)) < vec-len (now (bytes .entry)) + length (kept (item-line (now (count .entry) .lines) (now (count .entry) .«record») (item-of (next .entry) (now (place .entry)))))) ⌝ }
 {
     let Some(line) = count.take(next, place) else {
         return Ok(());

@@ -13,7 +13,7 @@ use Rattle.std.specs.declared.result.Result.the-variants.{Ok}
 use Rattle.records.specs.declared.Record.{Record}
 use Rattle.records.specs.declared.SetupPlace.{SetupPlace}
 use Rattle.records.specs.Decode.{decode}
-use Rattle.records.specs.Encode.{encode}
+use Rattle.records.specs.Encode.{encode, in-limits}
 use Rattle.records.specs.Items.{Item, setup, load, store, pass, note}
 use Rattle.records.specs.Parsed.{Parsed, Took, Refuses}
 use Rattle.records.specs.Whole.{Reads, finished, another, Trace}
@@ -30,6 +30,11 @@ encode-some (store size address value) = omega arith
 encode-some (pass steps) = omega arith
 encode-some (note bytes) = omega arith
 
+-- where a record ends of which the bytes are known
+pub ends-at : (trace es : List ℕ) (at to : ℕ) → at ≤ length trace → to ≤ length trace → take to trace ≡ take at trace ++ es → to ≡ at + length es
+ends-at trace es at to l u e =
+    sym (length-take-le to trace u) ∙ ap length e ∙ length-append (take at trace) es ∙ ap (λ n. n + length es) (length-take-le at trace l)
+
 -- what a reader gave, in the terms of the trace that it stands on
 pub gave-there : {T trace : List ℕ} {at′ at : ℕ} (o : Outcome) → T ≡ trace → at′ ≡ at → reading T at′ ≡ o → Written T at′ (reading T at′) → (reading trace at ≡ o) × Written trace at o
 gave-there {T} {trace} {at′} {at} o p q e w = (
@@ -37,14 +42,27 @@ gave-there {T} {trace} {at′} {at} o p q e w = (
   subst (λ k. Written trace k o) q (subst (λ t. Written t at′ o) p (subst (λ x. Written T at′ x) e w)),
 )
 
+-- a record that was given at a place, in the terms of the trace that the reader stands on
+pub record Given (trace : List ℕ) (at to : ℕ) (item : Item) : Type 0 where
+  pub gives : reading trace at ≡ gave item to
+  pub before : at ≤ length trace
+  pub on : at < to
+  pub inside : to ≤ length trace
+  pub bytes : take to trace ≡ take at trace ++ encode item
+  pub limits : in-limits item ≡ true
+
+pub given : {T trace : List ℕ} {at′ at : ℕ} (item : Item) (to : ℕ) → T ≡ trace → at′ ≡ at → at′ ≤ length T → reading T at′ ≡ gave item to → Written T at′ (reading T at′) → Given trace at to item
+given {T} {trace} {at′} {at} item to p q l e w =
+    let g = gave-there (gave item to) p q e w in
+    let same : length T ≡ length trace = ap length p in
+    let here : at ≤ length trace = omega arith in
+    let ends = ends-at trace (encode item) at to here (g .1 .0) (g .1 .1) in
+    let some = encode-some item in
+    record { gives = g .0; before = here; on = omega arith; inside = g .1 .0; bytes = g .1 .1; limits = g .1 .2 }
+
 -- a reader's answer under another name
 pub answered : (o o′ : Option Record) (p : SetupPlace) (to : ℕ) (out : Outcome) → outcome (Ok o) p to ≡ out → o ≡ o′ → out ≡ outcome (Ok o′) p to
 answered o o′ p to out e s = sym e ∙ ap (λ x. outcome (Ok x) p to) s
-
--- where a record ends of which the bytes are known
-pub ends-at : (trace es : List ℕ) (at to : ℕ) → at ≤ length trace → to ≤ length trace → take to trace ≡ take at trace ++ es → to ≡ at + length es
-ends-at trace es at to l u e =
-    sym (length-take-le to trace u) ∙ ap length e ∙ length-append (take at trace) es ∙ ap (λ n. n + length es) (length-take-le at trace l)
 
 -- a record that was given was taken off the bytes there
 given-there : (trace : List ℕ) (at : ℕ) (item : Item) (to : ℕ) (b : Bool) (p : Parsed Item) → cond b ended (at-place trace at p) ≡ gave item to → (rest : List ℕ) × (p ≡ Took item rest) × (to ≡ length trace - length rest)

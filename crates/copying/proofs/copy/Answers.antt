@@ -1,14 +1,12 @@
-use Prim.Native.Nat.{_≤_}
 use mathlib.Core.Path.{sym, ap, _∙_, subst}
 use lib.ListN.{length, take}
 use native.Mathlib.Omega.{arith}
-use Rattle.records.specs.Encode.{encode}
 use Rattle.records.specs.Items.{item-of}
-use Rattle.reader.specs.Reading.{gave, ended}
+use Rattle.reader.specs.Reading.{ended}
 use Rattle.std.proofs.shelf.Lists.{take-all}
 use Rattle.std.specs.declared.option.Option.the-variants.{Some, None}
 use Rattle.copying.specs.Copied.{Behind}
-use Rattle.reader.proofs.Runs.{encode-some, ends-at, gave-there, answered, passed-whole}
+use Rattle.reader.proofs.Runs.{given, gave-there, answered, passed-whole}
 use Rattle.copying.proofs.Fronts.{Front, front-start, front-further, writing-fits}
 use Rattle.copying.proofs.copy.Needs as need
 
@@ -17,28 +15,22 @@ loop-record-holds c = (c .new-reader .ensures .trace, c .new-reader .ensures .pl
 
 pub loop-record-less : need.loop-record-less
 loop-record-less c =
-    let trace = c .args .trace .now in
-    let item = item-of (c .in-Some .record) (c .next .last .place) in
     let e = answered (c .in-Continue-record .field-0) (Some (c .in-Some .record)) (c .next .last .place) (c .next .last .self .place) _ (c .in-Continue-record .ensures tt .value) (c .in-Some .is) in
-    let g = gave-there (gave item (c .next .last .self .place)) (c .loop-record .inv .0) (c .loop-record .inv .1) e (c .in-Continue-record .ensures tt .written) in
-    let l : c .loop-record .at ≤ length trace = omega (arith, ap length (c .loop-record .inv .0)) in
-    let m = ends-at trace (encode item) (c .loop-record .at) (c .next .last .self .place) l (g .1 .0) (g .1 .1) in
-    let some = encode-some item in
-    omega (arith, g .1 .0)
+    let g = given (item-of (c .in-Some .record) (c .next .last .place)) (c .next .last .self .place) (c .loop-record .inv .0) (c .loop-record .inv .1) (c .loop-record .reader .ok) e (c .in-Continue-record .ensures tt .written) in
+    omega (arith, g .on, g .inside)
 
 pub loop-record-again : need.loop-record-again
 loop-record-again c =
     let trace = c .args .trace .now in
     let item = item-of (c .in-Some .record) (c .next .last .place) in
     let e = answered (c .in-Continue-record .field-0) (Some (c .in-Some .record)) (c .next .last .place) (c .next .last .self .place) _ (c .in-Continue-record .ensures tt .value) (c .in-Some .is) in
-    let g = gave-there (gave item (c .next .last .self .place)) (c .loop-record .inv .0) (c .loop-record .inv .1) e (c .in-Continue-record .ensures tt .written) in
-    let l : c .loop-record .at ≤ length trace = omega (arith, ap length (c .loop-record .inv .0)) in
+    let g = given item (c .next .last .self .place) (c .loop-record .inv .0) (c .loop-record .inv .1) (c .loop-record .reader .ok) e (c .in-Continue-record .ensures tt .written) in
     let w = c .in-rest-write .ensures tt in
     let fits = writing-fits (c .loop-record .writer .written) (length (c .loop-record .writer .place .now)) item (sym (w .value)) in (
       c .in-Continue-record .ensures tt .trace ∙ c .loop-record .inv .0,
       sym (c .place-at .ensures),
       subst (λ k. Front trace k (c .args .writer .now) (c .write .last .self)) (sym (c .place-at .ensures))
-          (front-further trace (c .loop-record .at) (c .next .last .self .place) item (c .args .writer .now) (c .loop-record .writer) (c .write .last .self) (c .loop-record .inv .2) l (g .0) (g .1 .0) (g .1 .1) fits (w .written) (w .place)),
+          (front-further trace (c .loop-record .at) (c .next .last .self .place) item (c .args .writer .now) (c .loop-record .writer) (c .write .last .self) (c .loop-record .inv .2) (g .before) (g .gives) (g .inside) (g .bytes) fits (w .written) (w .place)),
     )
 
 pub returns : need.returns

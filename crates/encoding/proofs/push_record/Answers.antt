@@ -8,7 +8,7 @@ use Rattle.records.specs.declared.SetupPlace.{SetupPlace}
 use Rattle.records.specs.Encode.{encode}
 use Rattle.records.specs.Items.{item-of}
 use Rattle.records.specs.Numbers.{spelled}
-use Rattle.encoding.proofs.Appends.{appended}
+use Rattle.buffer.proofs.Kept.{appended}
 use Rattle.encoding.proofs.push_record.Needs as need
 
 -- the bytes of one record are those of the record that it is

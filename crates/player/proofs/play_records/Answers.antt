@@ -1,15 +1,17 @@
 use Prim.Native.Nat.{_≤_}
 use mathlib.Core.Path.{_≡_, refl, ap, _∙_}
 use lib.ListN.{length}
+use mathlib.Core.List.{_++_}
 use borrow.Author.Needs.{needs}
 use native.Mathlib.Omega.{arith}
-use Rattle.records.specs.Encode.{encode}
 use Rattle.records.specs.Items.{item-of}
-use Rattle.reader.proofs.Runs.{encode-some, ends-at, gave-there, passed-whole}
+use Rattle.reader.proofs.Runs.{given, gave-there, passed-whole}
 use Rattle.reader.specs.Reading.{gave, ended, reading}
 use Rattle.std.proofs.shelf.Results.{made-from-err}
 use Rattle.std.specs.Of.Vec.{vec-items}
-use Rattle.player.proofs.Runs.{shown-start, shown-further}
+use Rattle.player.specs.Counts.{item-line}
+use Rattle.player.proofs.Runs.{index-small, shown-start, shown-further}
+use Rattle.player.proofs.Short.{item-short, short-kept}
 use Rattle.player.proofs.play_records.Needs as need
 
 pub loop-next-holds : need.loop-next-holds
@@ -21,45 +23,37 @@ loop-next-holds c = (
 
 pub loop-next-less : need.loop-next-less
 loop-next-less c =
-    let trace = c .args .trace .now in
     let item = item-of (c .in-Ok-Some .next) (c .next .last .place) in
     let e : reading (c .loop-next .reader .trace .now) (c .loop-next .reader .place) ≡ gave item (c .next .last .self .place) = search needs in
-    let g = gave-there {at′ = c .loop-next .reader .place} (gave item (c .next .last .self .place)) (c .loop-next .inv .0) refl e (c .in-Ok-Some .ensures tt .written) in
-    let l : c .loop-next .reader .place ≤ length trace = omega (arith, ap length (c .loop-next .inv .0)) in
-    let m = ends-at trace (encode item) (c .loop-next .reader .place) (c .next .last .self .place) l (g .1 .0) (g .1 .1) in
-    let some = encode-some item in
-    omega (arith, g .1 .0)
+    let g = given {at′ = c .loop-next .reader .place} item (c .next .last .self .place) (c .loop-next .inv .0) refl (c .loop-next .reader .ok) e (c .in-Ok-Some .ensures tt .written) in
+    omega (arith, g .on, g .inside)
 
 pub loop-next-again : need.loop-next-again
 loop-next-again c =
-    let trace = c .args .trace .now in
     let item = item-of (c .in-Ok-Some .next) (c .next .last .place) in
     let e : reading (c .loop-next .reader .trace .now) (c .loop-next .reader .place) ≡ gave item (c .next .last .self .place) = search needs in
-    let g = gave-there {at′ = c .loop-next .reader .place} (gave item (c .next .last .self .place)) (c .loop-next .inv .0) refl e (c .in-Ok-Some .ensures tt .written) in
-    let l : c .loop-next .reader .place ≤ length trace = omega (arith, ap length (c .loop-next .inv .0)) in
-    let m = ends-at trace (encode item) (c .loop-next .reader .place) (c .next .last .self .place) l (g .1 .0) (g .1 .1) in
-    let some = encode-some item in
+    let g = given {at′ = c .loop-next .reader .place} item (c .next .last .self .place) (c .loop-next .inv .0) refl (c .loop-next .reader .ok) e (c .in-Ok-Some .ensures tt .written) in
+    let short = item-short (c .loop-next .count .lines) (c .loop-next .count .«record») item (index-small (c .loop-next .inv .1)) (g .limits) in
+    let whole = short-kept (item-line (c .loop-next .count .lines) (c .loop-next .count .«record») item) short in
     let p = c .in-Continue-push-record .ensures tt in (
       c .in-Ok-Some .ensures tt .trace ∙ c .loop-next .inv .0,
-      shown-further trace (c .loop-next .reader .place) (c .next .last .self .place) item (vec-items (c .loop-next .bytes)) (vec-items (c .push-record .last .bytes)) (c .loop-next .count) (c .push-record .last .count) (c .loop-next .inv .1) (g .0) (p .items (g .1 .2)) (p .after) (omega arith) (p .short (g .1 .2)),
+      shown-further (c .args .trace .now) (c .loop-next .reader .place) (c .next .last .self .place) item (vec-items (c .loop-next .bytes)) (vec-items (c .push-record .last .bytes)) (c .loop-next .count) (c .push-record .last .count) (c .loop-next .inv .1) (g .gives) (p .items ∙ ap (λ xs. vec-items (c .loop-next .bytes) ++ xs) whole) (p .after) (g .on) short,
       omega (arith, p .capacity, c .loop-next .inv .2),
     )
 
 pub returns-in-Break-push-record : need.returns-in-Break-push-record
 returns-in-Break-push-record c =
-    let trace = c .args .trace .now in
     let item = item-of (c .in-Ok-Some .next) (c .next .last .place) in
     let e : reading (c .loop-next .reader .trace .now) (c .loop-next .reader .place) ≡ gave item (c .next .last .self .place) = search needs in
-    let g = gave-there {at′ = c .loop-next .reader .place} (gave item (c .next .last .self .place)) (c .loop-next .inv .0) refl e (c .in-Ok-Some .ensures tt .written) in
-    let l : c .loop-next .reader .place ≤ length trace = omega (arith, ap length (c .loop-next .inv .0)) in
-    let m = ends-at trace (encode item) (c .loop-next .reader .place) (c .next .last .self .place) l (g .1 .0) (g .1 .1) in
-    let some = encode-some item in
-    let full = c .in-Break-push-record .ensures tt .full (g .1 .2) in
+    let g = given {at′ = c .loop-next .reader .place} item (c .next .last .self .place) (c .loop-next .inv .0) refl (c .loop-next .reader .ok) e (c .in-Ok-Some .ensures tt .written) in
+    let short = item-short (c .loop-next .count .lines) (c .loop-next .count .«record») item (index-small (c .loop-next .inv .1)) (g .limits) in
+    let whole = short-kept (item-line (c .loop-next .count .lines) (c .loop-next .count .«record») item) short in
+    let same = ap length whole in
     let failed = c .from-residual .ensures .0 in
     record {
       shown = made-from-err (c .from-residual .result) _ failed;
       room = made-from-err (c .from-residual .result) _ failed;
-      succeeds = λ h. absurd (omega (arith, full, h, g .1 .0, c .loop-next .inv .1 .few, c .loop-next .inv .2, c .clear .ensures .capacity, c .loop-next .bytes .ok .0));
+      succeeds = λ h. absurd (omega (arith, c .in-Break-push-record .ensures tt .full, same, short, h, g .on, g .inside, c .loop-next .inv .1 .few, c .loop-next .inv .2, c .clear .ensures .capacity, c .loop-next .bytes .ok .0));
     }
 
 pub returns-in-Ok-None : need.returns-in-Ok-None

@@ -5,11 +5,10 @@ use lib.ListN.{getD, drop}
 use Rattle.std.proofs.shelf.Lists.{at-drop-more, at-drop-all, append-nil}
 use Rattle.std.specs.shelf.Lists.{joined}
 use Rattle.buffer.specs.Held.{held, kept}
-use Rattle.buffer.proofs.Kept.{kept-held}
+use Rattle.buffer.proofs.Kept.{kept-held, appended}
 use Rattle.records.specs.declared.BadLine.{BadLine}
 use Rattle.records.specs.Encode.{bad-line-bytes}
 use Rattle.records.specs.Numbers.{spelled}
-use Rattle.encoding.proofs.Appends.{appended}
 use Rattle.encoding.proofs.setup.push_bad_lines.Needs as need
 
 pub loop-b-again : need.loop-b-again

@@ -5,7 +5,7 @@ use Rattle.buffer.specs.Held.{held, kept}
 use Rattle.records.specs.Encode.{bottom-bytes}
 use Rattle.records.specs.Items.{script-of}
 use Rattle.records.specs.Numbers.{spelled}
-use Rattle.encoding.proofs.Appends.{appended}
+use Rattle.buffer.proofs.Kept.{appended}
 use Rattle.encoding.proofs.setup.push_bottom.Needs as need
 
 pub returns-in-Ordered : need.returns-in-Ordered

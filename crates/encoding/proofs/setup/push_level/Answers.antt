@@ -1,5 +1,5 @@
 use borrow.Author.Needs.{needs}
-use Rattle.encoding.proofs.Appends.{appended}
+use Rattle.buffer.proofs.Kept.{appended}
 use Rattle.encoding.proofs.setup.push_level.Needs as need
 
 pub returns : need.returns

@@ -3,7 +3,7 @@ use mathlib.Core.Path.{sym, ap, _∙_}
 use Rattle.buffer.specs.Held.{held, kept}
 use Rattle.records.specs.Encode.{level-bytes, levels-bytes}
 use Rattle.records.specs.Numbers.{spelled}
-use Rattle.encoding.proofs.Appends.{appended}
+use Rattle.buffer.proofs.Kept.{appended}
 use Rattle.encoding.proofs.setup.push_levels.Needs as need
 
 pub returns-in-None : need.returns-in-None
