@@ -4,7 +4,15 @@ use mathlib.Core.Bool.{Bool, true, false, _&&_}
 use mathlib.Core.List.{List, [], _∷_}
 use Rattle.records.specs.Numbers.{number}
 use Rattle.records.specs.Parsed.{Parsed, Took, Refuses, refusal-code}
+use Rattle.replacement.specs.Orders.{picked}
+use Rattle.replacement.specs.Ranks.{moved-to-end}
+use Rattle.replacement.specs.Shapes as shapes
+use Rattle.replacement.specs.declared.refusal.Refusal.{Refusal}
 use Rattle.request.specs.Requests as request
+use Rattle.std.specs.Iters.{counting}
+use Rattle.std.specs.declared.option.Option.{Option}
+use Rattle.std.specs.declared.option.Option.the-variants.{Some, None}
+use Rattle.std.specs.declared.result.Result.{Result}
 use Rattle.std.specs.declared.result.Result.the-variants.{Ok, Err}
 
 -- one example: the numbers that a definition computes, and those that the rules give
@@ -34,6 +42,20 @@ abbrev request-row : request.Answer → List ℕ
 request-row (Ok done) = 0 ∷ []
 request-row (Err r) = request.refusal-code r ∷ []
 
+-- 0 and the sets and ways of a geometry, or the number of the refusal
+abbrev geometry-row : Result (ℕ × ℕ) Refusal → List ℕ
+geometry-row (Ok g) = 0 ∷ (g .0 ∷ (g .1 ∷ []))
+geometry-row (Err r) = shapes.refusal-code r ∷ []
+
+-- the way that is picked, or nothing
+abbrev pick-row : Option ℕ → List ℕ
+pick-row None = []
+pick-row (Some way) = way ∷ []
+
+-- an order of four ways
+abbrev some-order : ℕ → List ℕ
+some-order set = 1 ∷ (0 ∷ (3 ∷ (2 ∷ [])))
+
 -- the worked examples of the rules
 abbrev pub table : List Row
 table =
@@ -49,4 +71,14 @@ table =
     ∷ (record { computed = request-row (request.store-answer 4 2 0 65535); wanted = 0 ∷ [] }
     -- 2 bytes do not hold 65,536
     ∷ (record { computed = request-row (request.store-answer 4 2 0 65536); wanted = 9 ∷ [] }
-    ∷ [])))))
+    -- a geometry may have 8 sets
+    ∷ (record { computed = geometry-row (shapes.geometry-answer 8 2); wanted = 0 ∷ (8 ∷ (2 ∷ [])) }
+    -- no geometry has 3 sets
+    ∷ (record { computed = geometry-row (shapes.geometry-answer 3 2); wanted = 10 ∷ [] }
+    -- four ways of which the least recently used is first: 0 is used, and then 2
+    ∷ (record { computed = moved-to-end 2 (moved-to-end 0 (counting 0 4)); wanted = 1 ∷ (3 ∷ (0 ∷ (2 ∷ []))) }
+    -- of the order 1, 0, 3, 2 the mask 5 offers 0 and 2
+    ∷ (record { computed = pick-row (picked 1 some-order 0 5); wanted = 0 ∷ [] }
+    -- the mask 0 offers none
+    ∷ (record { computed = pick-row (picked 1 some-order 0 0); wanted = [] }
+    ∷ []))))))))))

@@ -1,8 +1,9 @@
 use Prim.Native.Nat.{ℕ, _+_, _*_, _%_, _^_, _<_, _≤_}
 use lib.Dec.{eqb, leb, ltb}
-use mathlib.Core.Bool.{Bool, true, false, _||_}
+use mathlib.Core.Bool.{Bool, true, false}
 use mathlib.Core.Logic.{_⊎_}
 use mathlib.Core.Path.{_≡_}
+use Rattle.line.specs.Values.{is-size}
 use Rattle.request.specs.declared.Refusal.{Refusal}
 use Rattle.request.specs.declared.Refusal.the-variants.{Size, Alignment, Range, Value}
 use Rattle.std.specs.declared.result.Result.{Result}
@@ -23,10 +24,6 @@ Answer = Result (Unit {0}) Refusal
 abbrev pub checked : Bool → Refusal → Answer → Answer
 checked true refusal rest = rest
 checked false refusal rest = Err refusal
-
--- the sizes that a request may have, in bytes
-abbrev pub is-size : ℕ → Bool
-is-size size = eqb size 1 || (eqb size 2 || (eqb size 4 || eqb size 8))
 
 -- the answer to a request of `size` bytes at `address`, where `rest` decides once its place is lawful
 abbrev pub place-answer : ℕ → ℕ → ℕ → Answer → Answer

@@ -3,6 +3,7 @@ ghost use mathlib.Core.Path.{_≡_};
 ghost use Rattle.request.specs.Requests.{refusal-code, load-answer, store-answer, LawfulLoad, LawfulStore};
 ghost use Rattle.std.specs.Orderings.{Decides};
 ghost use Rattle.std.specs.Results.{isOk};
+use line::values::is_size;
 
 /// How many bytes a line of the memory has.
 const LINE_SIZE: u64 = 16;
@@ -39,7 +40,7 @@ pub fn check_load(lines: u16, size: u8, address: u32) -> Result<(), Refusal>
     ensures answer { λ r. ⌜ r ≡ load-answer lines size address ⌝ }
     ensures lawful { λ r. ⌜ Decides (isOk r) (LawfulLoad lines size address) ⌝ }
 {
-    if !matches!(size, 1 | 2 | 4 | 8) {
+    if !is_size(size) {
         return Err(Refusal::Size);
     }
     if address % u32::from(size) != 0 {

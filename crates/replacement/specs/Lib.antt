@@ -1,0 +1,4 @@
+pub mod Counts
+pub mod Orders
+pub mod Ranks
+pub mod Shapes
