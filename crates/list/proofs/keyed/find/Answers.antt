@@ -1,4 +1,7 @@
-use mathlib.Core.Path.{sym, _∙_}
+use borrow.Author.Needs.{needs}
+use lib.Dec.{eqb}
+use mathlib.Core.Bool.{true}
+use mathlib.Core.Path.{_≡_, sym, _∙_}
 use borrow.Author.Tests.{eq-eqb, ne-eqb}
 use Rattle.std.proofs.shelf.Lists.{at-drop-all}
 use Rattle.list.specs.Keyed.{place-of}
@@ -6,10 +9,12 @@ use Rattle.list.proofs.Places.{later, found-at, passed-at}
 use Rattle.list.proofs.keyed.find.Needs as need
 
 pub returns-then-key-of-sought : need.returns-then-key-of-sought
-returns-then-key-of-sought g c = record {
-  place = sym (found-at (g .T·Keyed .key) (c .args .sought) (c .args .entries .now) (c .loop-i .i) (c .index-entries-i .result) (c .loop-i-test .taken) (c .index-entries-i .is) (eq-eqb _ _ (sym (c .key-of .ensures) ∙ c .if-key-of-sought .taken))) ∙ c .loop-i .inv;
-  within = c .loop-i-test .taken;
-}
+returns-then-key-of-sought g c =
+    let key = g .T·Keyed .key in
+    let x = c .index-entries-i .result in
+    let same : eqb (key x) (c .args .sought) ≡ true = eq-eqb (key x) (c .args .sought) (search needs) in
+    let place = sym (found-at key (c .args .sought) (c .args .entries .now) (c .loop-i .i) x (c .loop-i-test .taken) (c .index-entries-i .is) same) ∙ c .loop-i .inv in
+    record { place = search needs; within = search needs }
 
 pub loop-i-again : need.loop-i-again
 loop-i-again g c =

@@ -12,6 +12,8 @@ pub returns : need.returns
 returns c =
     let long : length (c .take-out .last .entries) ≡ c .args .ways = search needs in
     let all : c .args .ways - 0 ≡ c .args .ways = omega arith in
+    let front =
     take-at (c .take-out .last .entries) (postOf 0 (c .args .ways - 0) (c .args .row)) (c .args .ways) long
     ∙ c .take-out .ensures .after
-    ∙ ap (λ n. moved-to-end (c .args .way) (take n (c .args .row))) all
+    ∙ ap (λ n. moved-to-end (c .args .way) (take n (c .args .row))) all in
+    search needs

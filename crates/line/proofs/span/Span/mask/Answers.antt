@@ -1,3 +1,4 @@
+use borrow.Author.Needs.{needs}
 use mathlib.Core.Path.{ap, _∙_}
 use Rattle.line.proofs.Masks.{shifted-mask, value-mask-bits}
 use Rattle.line.proofs.span.Span.mask.Needs as need
@@ -7,4 +8,4 @@ pub returns : need.returns
 returns c =
     let s = c .args .self in
     let is = shifted-mask (s .place) (s .size) (s .inside) in
-    record { value = is; bits = λ i. ap (λ m. bit m i) is ∙ value-mask-bits (s .place) (s .size) i }
+    record { value = search needs; bits = λ i. ap (λ m. bit m i) is ∙ value-mask-bits (s .place) (s .size) i }

@@ -20,4 +20,4 @@ returns-in-Some-pop g c =
     let zs = c .take-out .last .entries in
     let long : length zs ≡ vec-len v = search needs in
     let s = last-taken (g .T·Keyed .key) (c .args .sought) (vec-items v) (c .as-mut-slice .result .now) zs (c .in-Some .place) (vec-items (c .pop .last .self)) (c .in-Some-pop .entry) (c .as-mut-slice .ensures .value) (c .in-Some .ensures tt .place) (c .take-out .ensures .after) (sym (refilled-is v zs long) ∙ c .in-Some-pop .ensures tt .items) in
-    record { limit = search needs; value = s .0; after = s .1 }
+    record { limit = search needs; value = search needs; after = s .1 }
