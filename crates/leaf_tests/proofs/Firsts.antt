@@ -18,6 +18,7 @@ use Rattle.std.specs.Options.{isSome}
 use Rattle.std.specs.declared.option.Option.{Option}
 use Rattle.std.specs.declared.option.Option.the-variants.{Some, None}
 
+-- the mask 255 offers every way, so the first in the order is picked
 all-offered : (ways : ℕ) (order : List ℕ) → ways ≤ 8 → EachOnce ways order → first-offered 255 order ≡ front order
 all-offered ways [] few once = refl
 all-offered ways (w ∷ ws) few once =
@@ -25,10 +26,12 @@ all-offered ways (w ∷ ws) few once =
     let below : w < 8 = grind (arith, tells) in
     cond-true (bit 255 w) (Some w) (first-offered 255 ws) (value-mask-bits 0 8 w ∙ grind (arith, tells))
 
+-- an order in which a way stands has a first
 some-front : (ways : ℕ) (order : List ℕ) → 0 < ways → EachOnce ways order → isSome (front order) ≡ true
 some-front ways [] some once = let one = once 0 in absurd (grind (arith, tells))
 some-front ways (w ∷ ws) some once = refl
 
+-- what a rule picks where every way is offered
 pub victim : (sets ways set : ℕ) (order : ℕ → List ℕ) (r : Option ℕ) → is-count ways ≡ true → (set < sets → EachOnce ways (order set)) → r ≡ picked sets order set 255 → (r ≡ cond (ltb set sets) (front (order set)) None) × (isSome r ≡ ltb set sets)
 victim sets ways set order r count once e =
     ⊎-elim

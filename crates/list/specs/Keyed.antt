@@ -6,12 +6,12 @@ use Rattle.std.specs.Options.{mapped}
 use Rattle.std.specs.declared.option.Option.{Option}
 use Rattle.std.specs.declared.option.Option.the-variants.{Some, None}
 
--- the first entry that has the key sought, behind the place where it stands
+-- the place where the first entry that has the key sought stands, and that entry
 abbrev pub taken : {X : Type 0} → (X → ℕ) → ℕ → List X → Option (ℕ × X)
 taken key sought [] = None
 taken key sought (x ∷ xs) = cond (eqb (key x) sought) (Some (0, x)) (mapped (λ p. (suc (p .0), p .1)) (taken key sought xs))
 
--- the place of that entry
+-- that place alone
 abbrev pub place-of : {X : Type 0} → (X → ℕ) → ℕ → List X → Option ℕ
 place-of key sought [] = None
 place-of key sought (x ∷ xs) = cond (eqb (key x) sought) (Some 0) (mapped (λ i. suc i) (place-of key sought xs))

@@ -1,4 +1,4 @@
-//! Why no geometry is made.
+//! The refusal of a geometry, with its number.
 ghost use mathlib.Core.Path.{_≡_};
 ghost use Rattle.replacement.specs.Shapes.{refusal-code};
 
