@@ -1,4 +1,6 @@
 //! An append-only buffer of at most 1,024 bytes, held by value.
+#![tactic(auto)]
+
 ghost use Rattle.std.specs.Prelude.{◌≤◌};
 
 mod appends;

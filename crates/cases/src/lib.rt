@@ -1,4 +1,6 @@
 //! The worked examples of the rules, computed from the definitions that the contracts cite.
+#![tactic(auto)]
+
 ghost use Rattle.cases.specs.Table.{agree, table};
 ghost use Rattle.std.specs.Prelude.{◌≡◌, true};
 

@@ -1,4 +1,6 @@
 //! A whole trace, read record by record and written again.
+#![tactic(auto)]
+
 ghost use Rattle.copying.specs.Copied.{Copied};
 
 use reader::{Reader, Refused};

@@ -1,4 +1,6 @@
 //! The record at a place of a trace.
+#![tactic(auto)]
+
 ghost use Rattle.decoding.specs.Notes.{Noted};
 ghost use Rattle.decoding.specs.Places.{record_onto};
 ghost use Rattle.records.specs.Encode.{encode, in_limits};

@@ -1,4 +1,6 @@
 //! The bytes of a record, in a buffer of their own.
+#![tactic(auto)]
+
 ghost use Rattle.std.specs.Prelude.{◌≡◌, true, ◌++◌};
 ghost use Rattle.buffer.specs.Held.{held, kept};
 ghost use Rattle.records.specs.Encode.{encode, in_limits};

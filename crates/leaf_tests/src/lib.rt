@@ -1,4 +1,5 @@
 //! Lines, lists and replacement rules: a function for every rule, and tests on examples.
+#![tactic(auto)]
 
 #[cfg(test)]
 mod lines;

@@ -1,4 +1,5 @@
 //! Lines of 16 bytes: new bytes laid on a line under a mask, and values that lie in a line.
+#![tactic(auto)]
 
 pub mod laying;
 pub mod span;

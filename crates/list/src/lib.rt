@@ -1,4 +1,5 @@
 //! Ordered lists of bounded length, oldest entry first, and removal by key for entries of every type that has one.
+#![tactic(auto)]
 
 pub mod bounded;
 mod calls;

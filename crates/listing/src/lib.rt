@@ -1,4 +1,6 @@
 //! The text of a listing's lines.
+#![tactic(auto)]
+
 ghost use Rattle.std.specs.Prelude.{◌≡◌, ◌∷◌, ◌++◌, codes, decimal};
 ghost use Rattle.buffer.specs.Held.{held, kept};
 ghost use Rattle.listing.specs.Shown.{shown, fields_of};

@@ -1,4 +1,6 @@
 //! Plays the trace on standard input and prints its listing.
+#![tactic(auto)]
+
 use player::play;
 use std::io;
 use std::io::{Read, Write};

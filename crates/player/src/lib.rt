@@ -1,4 +1,6 @@
 //! Plays a trace: its listing, with no memory yet under its requests.
+#![tactic(auto)]
+
 ghost use Rattle.buffer.specs.Held.{kept};
 ghost use Rattle.listing.specs.Shown.{shown};
 ghost use Rattle.player.specs.Counts.{item_line, item_goes};

@@ -1,4 +1,6 @@
 //! The reader of a trace: it stands on the trace's bytes and gives one record after another.
+#![tactic(auto)]
+
 ghost use Rattle.std.specs.Prelude.{◌≤◌, length};
 
 mod calls;

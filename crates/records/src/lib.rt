@@ -1,4 +1,5 @@
 //! The records of a trace: their types, and the numbers that their fields are written in.
+#![tactic(auto)]
 
 ghost use Rattle.records.specs.Items.{empty_place};
 ghost use Rattle.records.specs.Parsed.{refusal_code};

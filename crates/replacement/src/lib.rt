@@ -1,4 +1,5 @@
 //! Sets and ways of a cache, and the rules that say which way of a set is replaced next.
+#![tactic(auto)]
 
 pub mod fifo;
 pub mod geometry;

@@ -1,4 +1,6 @@
 //! Which requests to the memory are lawful, and why another one is refused.
+#![tactic(auto)]
+
 ghost use Rattle.std.specs.Prelude.{◌≡◌, is_ok, Decides};
 ghost use Rattle.request.specs.Requests.{refusal_code, load_answer, store_answer, LawfulLoad, LawfulStore};
 

@@ -1,4 +1,5 @@
 //! Tests of traces on examples: listings, refusals and a copy.
+#![tactic(auto)]
 
 #[cfg(test)]
 mod copies;

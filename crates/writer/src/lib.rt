@@ -1,4 +1,6 @@
 //! The writer of a trace: it adds one record after another in a place that it is lent.
+#![tactic(auto)]
+
 ghost use Rattle.std.specs.Prelude.{◌≡◌, ℕ, ◌<◌, length, take, OnOk, slice_index};
 ghost use Rattle.records.specs.Encode.{encode};
 ghost use Rattle.records.specs.Items.{item_of};
