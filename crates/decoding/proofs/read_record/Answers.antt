@@ -14,6 +14,6 @@ returns-then-at-trace c = record {
 pub returns : goal.returns
 returns c = record {
   value = search (rules, take_rest);
-  noted = c.read-front.ensures.noted;
-  written = subst (λ (xs : List ℕ). IfOk c.read-front.result (λ s. (xs ≡ encode (item_of s.0.0 s.0.1) ++ s.1.now) × (in_limits (item_of s.0.0 s.0.1) ≡ true))) (take_rest c.args.trace.now c.args.at) c.read-front.ensures.written;
+  noted = c.read_front.ensures.noted;
+  written = subst (λ (xs : List ℕ). IfOk c.read_front.result (λ s. (xs ≡ encode (item_of s.0.0 s.0.1) ++ s.1.now) × (in_limits (item_of s.0.0 s.0.1) ≡ true))) (take_rest c.args.trace.now c.args.at) c.read_front.ensures.written;
 }

@@ -12,5 +12,5 @@ from_none a none e = e ∙ ap (λ l. kept (l ++ a)) none
 pub returns : goal.returns
 returns c =
     let item = item_of c.args.record.now c.args.place.now in
-    let is = from_none (encode item) c.new-buffer.ensures c.push-record.ensures in
+    let is = from_none (encode item) c.new-buffer.ensures c.push_record.ensures in
     record { first = is; all = kept-encode item is }

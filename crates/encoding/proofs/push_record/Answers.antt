@@ -13,7 +13,7 @@ same_record : (h : List ℕ) (r s : Record) (p : SetupPlace) {g : List ℕ} → 
 same_record h r s p is e = e ∙ ap (λ q. kept (h ++ encode (item_of q p))) (sym is)
 
 pub returns-in-Setup : goal.returns-in-Setup
-returns-in-Setup c = same_record (held c.args.buffer.now) c.args.record.now _ c.args.place.now c.in-Setup.is c.push-setup.ensures
+returns-in-Setup c = same_record (held c.args.buffer.now) c.args.record.now _ c.args.place.now c.in-Setup.is c.push_setup.ensures
 
 pub returns-in-Load : goal.returns-in-Load
 returns-in-Load c =
@@ -22,7 +22,7 @@ returns-in-Load c =
     let address = spelled c.in-Load.address in
     same_record h c.args.record.now _ c.args.place.now c.in-Load.is
     (appended h (1 ∷ []) (size ++ address) c.push.ensures
-    (appended (held c.push.new.self) size address c.push-number.ensures c.push-number-in-Load.ensures))
+    (appended (held c.push.new.self) size address c.push_number.ensures c.push_number-in-Load.ensures))
 
 pub returns-in-Store : goal.returns-in-Store
 returns-in-Store c =
@@ -32,14 +32,14 @@ returns-in-Store c =
     let value = spelled c.in-Store.value in
     same_record h c.args.record.now _ c.args.place.now c.in-Store.is
     (appended h (2 ∷ []) (size ++ (address ++ value)) c.push-in-Store.ensures
-    (appended (held c.push-in-Store.new.self) size (address ++ value) c.push-number-in-Store.ensures
-    (appended (held c.push-number-in-Store.new.buffer) address value c.push-number-in-Store-2.ensures c.push-number-in-Store-3.ensures)))
+    (appended (held c.push-in-Store.new.self) size (address ++ value) c.push_number-in-Store.ensures
+    (appended (held c.push_number-in-Store.new.buffer) address value c.push_number-in-Store-2.ensures c.push_number-in-Store-3.ensures)))
 
 pub returns-in-Pass : goal.returns-in-Pass
 returns-in-Pass c =
     let h = held c.args.buffer.now in
     same_record h c.args.record.now _ c.args.place.now c.in-Pass.is
-    (appended h (3 ∷ []) (spelled c.in-Pass.steps) c.push-in-Pass.ensures c.push-number-in-Pass.ensures)
+    (appended h (3 ∷ []) (spelled c.in-Pass.steps) c.push-in-Pass.ensures c.push_number-in-Pass.ensures)
 
 pub returns-in-Note : goal.returns-in-Note
 returns-in-Note c =
@@ -47,4 +47,4 @@ returns-in-Note c =
     let text = c.in-Note.text.now in
     same_record h c.args.record.now _ c.args.place.now c.in-Note.is
     (appended h (4 ∷ []) (spelled (length text) ++ text) c.push-in-Note.ensures
-    (appended (held c.push-in-Note.new.self) (spelled (length text)) text c.push-number-in-Note.ensures c.extend.ensures))
+    (appended (held c.push-in-Note.new.self) (spelled (length text)) text c.push_number-in-Note.ensures c.extend.ensures))

@@ -1,4 +1,4 @@
 use Rattle.listing.proofs.+push_decimal.Given as goal
 
-abbrev pub decreases-push-decimal : goal.decreases-push-decimal
-decreases-push-decimal l = l.n
+abbrev pub decreases-push_decimal : goal.decreases-push_decimal
+decreases-push_decimal l = l.n

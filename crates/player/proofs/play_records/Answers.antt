@@ -29,25 +29,25 @@ loop-next-preserved c =
     let g = given {at' = c.loop-next.reader.place} item c.next.new.self.place c.loop-next.invariant.0 refl c.loop-next.reader.ok e c.in-Ok-Some.ensures.written in
     let short = item_short c.loop-next.count.lines c.loop-next.count.«record» item (index_small c.loop-next.invariant.1) g.limits in
     let whole = short_kept (item_line c.loop-next.count.lines c.loop-next.count.«record» item) short in
-    let p = c.in-ok-push-record.ensures in (
+    let p = c.in_ok-push_record.ensures in (
       c.in-Ok-Some.ensures.trace ∙ c.loop-next.invariant.0,
-      shown_further c.args.trace.now c.loop-next.reader.place c.next.new.self.place item (vec_items c.loop-next.bytes) (vec_items c.push-record.new.bytes) c.loop-next.count c.push-record.new.count c.loop-next.invariant.1 g.gives (p.items ∙ ap (λ xs. vec_items c.loop-next.bytes ++ xs) whole) p.after g.on short,
+      shown_further c.args.trace.now c.loop-next.reader.place c.next.new.self.place item (vec_items c.loop-next.bytes) (vec_items c.push_record.new.bytes) c.loop-next.count c.push_record.new.count c.loop-next.invariant.1 g.gives (p.items ∙ ap (λ xs. vec_items c.loop-next.bytes ++ xs) whole) p.after g.on short,
       omega (arith, p.capacity, c.loop-next.invariant.2),
     )
 
-pub returns-in-err-push-record : goal.returns-in-err-push-record
-returns-in-err-push-record c =
+pub returns-in_err-push_record : goal.returns-in_err-push_record
+returns-in_err-push_record c =
     let item = item_of c.in-Ok-Some.next c.next.new.place in
     let e : reading c.loop-next.reader.trace.now c.loop-next.reader.place ≡ gave item c.next.new.self.place = search rules in
     let g = given {at' = c.loop-next.reader.place} item c.next.new.self.place c.loop-next.invariant.0 refl c.loop-next.reader.ok e c.in-Ok-Some.ensures.written in
     let short = item_short c.loop-next.count.lines c.loop-next.count.«record» item (index_small c.loop-next.invariant.1) g.limits in
     let whole = short_kept (item_line c.loop-next.count.lines c.loop-next.count.«record» item) short in
     let same = ap length whole in
-    let failed = c.from-residual.ensures.0 in
+    let failed = c.from_residual.ensures.0 in
     record {
-      shown = IfOk-from_err c.from-residual.result _ failed;
-      room = IfOk-from_err c.from-residual.result _ failed;
-      succeeds = λ h. absurd (omega (arith, c.in-err-push-record.ensures.full, same, short, h, g.on, g.inside, c.loop-next.invariant.1.few, c.loop-next.invariant.2, c.clear.ensures.capacity, c.loop-next.bytes.ok.0));
+      shown = IfOk-from_err c.from_residual.result _ failed;
+      room = IfOk-from_err c.from_residual.result _ failed;
+      succeeds = λ h. absurd (omega (arith, c.in_err-push_record.ensures.full, same, short, h, g.on, g.inside, c.loop-next.invariant.1.few, c.loop-next.invariant.2, c.clear.ensures.capacity, c.loop-next.bytes.ok.0));
     }
 
 pub returns-in-Ok-None : goal.returns-in-Ok-None
@@ -57,7 +57,7 @@ returns-in-Ok-None c =
     let g = gave_there {at' = c.loop-next.reader.place} ended c.loop-next.invariant.0 refl e c.in-Ok-None.ensures.written in
     let s = c.loop-next.invariant.1 in
     record {
-      shown = (s.items, passed_whole trace (λ k. omega (arith, c.type-inv.trace k)) s.passed g.0 g.1, s.shows, s.counts);
+      shown = (s.items, passed_whole trace (λ k. omega (arith, c.type_inv.trace k)) s.passed g.0 g.1, s.shows, s.counts);
       room = (omega (arith, s.few, g.1, c.loop-next.bytes.ok.0), omega (arith, c.loop-next.invariant.2, c.clear.ensures.capacity));
       succeeds = λ h. refl;
     }

@@ -14,7 +14,7 @@ loop-b-preserved c =
     let b : BadLine = get_or c.args.bad.now c.loop-b.b-index none in
     let h = held c.loop-b.buffer in
     appended h (bad_line_bytes b) (flat_map bad_line_bytes (drop (c.loop-b.b-index + 1) c.args.bad.now))
-    (appended h (spelled b.line) (spelled b.cause) c.push-number.ensures c.push-number-in-loop-b.ensures) refl
+    (appended h (spelled b.line) (spelled b.cause) c.push_number.ensures c.push_number-in-loop-b.ensures) refl
     ∙ ap (λ l. kept (h ++ l)) (sym (at_drop_more (flat_map bad_line_bytes) c.args.bad.now c.loop-b.b-index none c.loop-b-test.true))
     ∙ c.loop-b.invariant
 

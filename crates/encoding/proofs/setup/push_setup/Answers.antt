@@ -16,9 +16,9 @@ returns c =
     let bottom = bottom_bytes s.bottom (script_of s.bottom p.script) in
     let rest = spelled s.bad ++ (lines ++ levels) in
     appended (held c.args.buffer.now) (0 ∷ []) (spelled s.lines ++ (bottom ++ rest)) c.push.ensures
-    (appended (held c.push.new.self) (spelled s.lines) (bottom ++ rest) c.push-number.ensures
-    (appended (held c.push-number.new.buffer) bottom rest c.push-bottom.ensures
-    (appended (held c.push-bottom.new.buffer) (spelled s.bad) (lines ++ levels) c.push-number-2.ensures
-    (appended (held c.push-number-2.new.buffer) lines levels
-    (c.push-bad-lines.ensures ∙ ap (λ l. kept (held c.push-number-2.new.buffer ++ flat_map bad_line_bytes l)) c.front.ensures)
-    c.push-levels.ensures))))
+    (appended (held c.push.new.self) (spelled s.lines) (bottom ++ rest) c.push_number.ensures
+    (appended (held c.push_number.new.buffer) bottom rest c.push_bottom.ensures
+    (appended (held c.push_bottom.new.buffer) (spelled s.bad) (lines ++ levels) c.push_number-2.ensures
+    (appended (held c.push_number-2.new.buffer) lines levels
+    (c.push_bad_lines.ensures ∙ ap (λ l. kept (held c.push_number-2.new.buffer ++ flat_map bad_line_bytes l)) c.front.ensures)
+    c.push_levels.ensures))))

@@ -4,8 +4,8 @@ use Rattle.list.specs.Keyed.{place_of}
 use Rattle.list.proofs.Places.{later, found_at, passed_at}
 use Rattle.list.proofs.keyed.find.Goals as goal
 
-pub returns-then-key-of-sought : goal.returns-then-key-of-sought
-returns-then-key-of-sought g c =
+pub returns-then-key_of-sought : goal.returns-then-key_of-sought
+returns-then-key_of-sought g c =
     let key = g.T.Keyed.key in
     let x = c.index-entries-i.result in
     let same : eqb (key x) c.args.sought ≡ true = eq-eqb (key x) c.args.sought (search rules) in
@@ -14,7 +14,7 @@ returns-then-key-of-sought g c =
 
 pub loop-i-preserved : goal.loop-i-preserved
 loop-i-preserved g c =
-    passed_at g.T.Keyed.key c.args.sought c.args.entries.now c.loop-i.i c.index-entries-i.result c.loop-i-test.true c.index-entries-i.is (ne_eqb _ _ (λ e. c.if-key-of-sought.false (c.key-of.ensures ∙ e)))
+    passed_at g.T.Keyed.key c.args.sought c.args.entries.now c.loop-i.i c.index-entries-i.result c.loop-i-test.true c.index-entries-i.is (ne_eqb _ _ (λ e. c.if-key_of-sought.false (c.key_of.ensures ∙ e)))
     ∙ c.loop-i.invariant
 
 pub returns : goal.returns

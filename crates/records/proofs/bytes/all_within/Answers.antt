@@ -5,8 +5,8 @@ use Rattle.records.specs.Numbers.{within}
 use Rattle.records.proofs.Each.{each_passes, each_fails}
 use Rattle.records.proofs.bytes.all_within.Goals as goal
 
-pub returns-then-not-is-within : goal.returns-then-not-is-within
-returns-then-not-is-within c = search (rules, each_fails)
+pub returns-then-not-is_within : goal.returns-then-not-is_within
+returns-then-not-is_within c = search (rules, each_fails)
 
 pub loop-b-preserved : goal.loop-b-preserved
 loop-b-preserved c = search (rules, each_passes)

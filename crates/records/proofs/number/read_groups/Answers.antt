@@ -10,12 +10,12 @@ loop-i-init c =
     number_last c.args.bytes.now c.args.last c.requires.0 c.requires.1
     ∙ ap (λ v. Took v (drop (c.args.last + 1) c.args.bytes.now)) (sym c.from-value.ensures)
 
-pub returns-in-default : goal.returns-in-default
-returns-in-default c =
+pub returns-in_default : goal.returns-in_default
+returns-in_default c =
     let high : 128 ≤ get_or c.args.bytes.now (c.loop-i.i - 1) 0 = c.requires.2 (c.loop-i.i - 1) (omega arith) in
     sym (refused_on (c.loop-i.i - 1) c.args.bytes.now Number (omega arith) (λ k h. c.requires.2 k (omega arith))
     (number_before c.args.bytes.now c.loop-i.i c.loop-i.value (drop (c.args.last + 1) c.args.bytes.now) (omega arith) (omega arith) high c.loop-i.invariant
-    ∙ ap (λ o. or_refused o (drop (c.args.last + 1) c.args.bytes.now)) (sym c.in-default.ensures)))
+    ∙ ap (λ o. or_refused o (drop (c.args.last + 1) c.args.bytes.now)) (sym c.in_default.ensures)))
 
 pub loop-i-preserved : goal.loop-i-preserved
 loop-i-preserved c =

@@ -3,8 +3,8 @@ use Rattle.std.proofs.lemmas.List.{take_rest, length-drop}
 use Rattle.records.proofs.Numbers.{runs_off}
 use Rattle.records.proofs.number.read_number.Goals as goal
 
-pub returns-in-default : goal.returns-in-default
-returns-in-default c = search (rules, runs_off)
+pub returns-in_default : goal.returns-in_default
+returns-in_default c = search (rules, runs_off)
 
 pub returns : goal.returns
 returns c =

@@ -2,8 +2,8 @@ use Rattle.std.proofs.Common.{◌<◌, length, refl, rules}
 use Rattle.replacement.proofs.Once.{once_moved, order_moved}
 use Rattle.replacement.proofs.orders.Orders.move_to_end.Goals as goal
 
-pub invariant-of-self : goal.invariant-of-self
-invariant-of-self c =
+pub invariant_of-self : goal.invariant_of-self
+invariant_of-self c =
     let s = c.args.self.now in
     let there : c.args.set < length s.rows = search rules in
     (once_moved s.rows s.geometry.ways c.args.set c.args.way c.moved_to_end.result c.moved_to_end.ensures 8 s.once there, tt)

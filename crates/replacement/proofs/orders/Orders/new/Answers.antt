@@ -5,7 +5,7 @@ use Rattle.replacement.specs.Orders.{times}
 use Rattle.std.proofs.lemmas.List.{get_or-replicate}
 use Rattle.std.specs.List.{range_with_len}
 
-pub invariant-of-result : goal.invariant-of-result
-invariant-of-result c =
+pub invariant_of-result : goal.invariant_of-result
+invariant_of-result c =
     let g = c.args.geometry in
     (λ k h w. ap (λ row. times w (take g.ways row)) (get_or-replicate 8 k (range_with_len 0 8) [] h) ∙ starts 8 g.ways (count_small g.ways g.ways_count) w, tt)

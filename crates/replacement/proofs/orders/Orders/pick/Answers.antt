@@ -11,5 +11,5 @@ returns c =
     let below : c.args.set < 8 = omega (arith, c.if-set-self.false) in
     record {
       value = search rules;
-      cases = chosen g.sets g.ways c.args.set c.args.offered (order_of s c.args.set) c.first-of-row.result c.if-set-self.false (s.once c.args.set below) c.first-of-row.ensures;
+      cases = chosen g.sets g.ways c.args.set c.args.offered (order_of s c.args.set) c.first_of_row.result c.if-set-self.false (s.once c.args.set below) c.first_of_row.ensures;
     }
