@@ -27,7 +27,7 @@ impl<T> BoundedList<T> {
     pub fn is_full(&self) -> bool
         ensures { result ≡ (length (entries self.now) == self.now.limit) }
     {
-        self.items.len() == self.limit
+        self.len() == self.limit
     }
 
     /// The entries, oldest first.
@@ -55,8 +55,8 @@ impl<T: Keyed> BoundedList<T> {
     /// has the key, nothing is answered and nothing changes.
     pub fn take(&mut self, sought: u32) -> Option<(usize, T)>
         ensures limit { self.new.limit ≡ self.old.limit }
-        ensures value { result ≡ taken key sought (entries self.old) }
-        ensures after { entries self.new ≡ without key sought (entries self.old) }
+        ensures value { result ≡ taken T.key sought (entries self.old) }
+        ensures after { entries self.new ≡ without T.key sought (entries self.old) }
     {
         let Some(place) = take_out(self.items.as_mut_slice(), sought) else {
             return None;

@@ -23,7 +23,7 @@ impl Keyed for u8 {
 
 /// The place of the first entry that has the key, or nothing where none has it.
 pub fn find<T: Keyed>(entries: &[T], sought: u32) -> Option<usize>
-    ensures place { result ≡ place_of key sought entries.now }
+    ensures place { result ≡ place_of T.key sought entries.now }
     ensures within { IfSome result (λ i. i < length entries.now) }
 {
     for (i, entry) in entries.iter().enumerate() {
@@ -36,7 +36,7 @@ pub fn find<T: Keyed>(entries: &[T], sought: u32) -> Option<usize>
 
 /// The first entry that has the key, or nothing where none has it.
 pub fn entry_of<T: Keyed>(entries: &[T], sought: u32) -> Option<&T>
-    ensures { option_map (λ x. x.now) result ≡ entry_of key sought entries.now }
+    ensures { option_map (λ x. x.now) result ≡ entry_of T.key sought entries.now }
 {
     match find(entries, sought) {
         Some(i) => Some(&entries[i]),
@@ -47,9 +47,9 @@ pub fn entry_of<T: Keyed>(entries: &[T], sought: u32) -> Option<&T>
 /// Moves the first entry that has the key behind all others, which keep their order, and answers the place where it
 /// stood. Where none has the key, nothing is answered and nothing moves.
 pub fn take_out<T: Keyed>(entries: &mut [T], sought: u32) -> Option<usize>
-    ensures place { result ≡ place_of key sought entries.old }
+    ensures place { result ≡ place_of T.key sought entries.old }
     ensures within { IfSome result (λ i. i < length entries.old) }
-    ensures after { entries.new ≡ moved key sought entries.old }
+    ensures after { entries.new ≡ moved T.key sought entries.old }
 {
     let Some(i) = find(entries, sought) else {
         return None;

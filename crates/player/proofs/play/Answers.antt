@@ -8,7 +8,7 @@ use Rattle.player.specs.Listing.{Played}
 use Rattle.player.proofs.Runs.{counts_small, whole_listing, cut_listing}
 use Rattle.player.proofs.Short.{end_short, cut_short, short_kept, brief_line, brief_cut}
 use Rattle.player.proofs.play.Goals as goal
-use Rattle.player.proofs.play.Goals.{in-Some+in-ok-push-line, in-default}
+use Rattle.player.proofs.play.Goals.{in-Some+in_ok-push_line, in_default}
 
 pub returns : goal.returns
 returns c =

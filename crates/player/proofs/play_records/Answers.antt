@@ -29,14 +29,14 @@ loop-next-preserved c =
     let g = given {at' = c.loop-next.reader.place} item c.next.new.self.place c.loop-next.invariant.0 refl c.loop-next.reader.ok e c.in-Ok-Some.ensures.written in
     let short = item_short c.loop-next.count.lines c.loop-next.count.«record» item (index_small c.loop-next.invariant.1) g.limits in
     let whole = short_kept (item_line c.loop-next.count.lines c.loop-next.count.«record» item) short in
-    let p = c.in_ok-push_record.ensures in (
+    let p = c.in_ok-push_record-in-Ok-Some.ensures in (
       c.in-Ok-Some.ensures.trace ∙ c.loop-next.invariant.0,
       shown_further c.args.trace.now c.loop-next.reader.place c.next.new.self.place item (vec_items c.loop-next.bytes) (vec_items c.push_record.new.bytes) c.loop-next.count c.push_record.new.count c.loop-next.invariant.1 g.gives (p.items ∙ ap (λ xs. vec_items c.loop-next.bytes ++ xs) whole) p.after g.on short,
       omega (arith, p.capacity, c.loop-next.invariant.2),
     )
 
-pub returns-in_err-push_record : goal.returns-in_err-push_record
-returns-in_err-push_record c =
+pub returns-in_err-push_record-in-Ok-Some : goal.returns-in_err-push_record-in-Ok-Some
+returns-in_err-push_record-in-Ok-Some c =
     let item = item_of c.in-Ok-Some.next c.next.new.place in
     let e : reading c.loop-next.reader.trace.now c.loop-next.reader.place ≡ gave item c.next.new.self.place = search rules in
     let g = given {at' = c.loop-next.reader.place} item c.next.new.self.place c.loop-next.invariant.0 refl c.loop-next.reader.ok e c.in-Ok-Some.ensures.written in
@@ -47,7 +47,7 @@ returns-in_err-push_record c =
     record {
       shown = IfOk-from_err c.from_residual.result _ failed;
       room = IfOk-from_err c.from_residual.result _ failed;
-      succeeds = λ h. absurd (omega (arith, c.in_err-push_record.ensures.full, same, short, h, g.on, g.inside, c.loop-next.invariant.1.few, c.loop-next.invariant.2, c.clear.ensures.capacity, c.loop-next.bytes.ok.0));
+      succeeds = λ h. absurd (omega (arith, c.in_err-push_record-in-Ok-Some.ensures.full, same, short, h, g.on, g.inside, c.loop-next.invariant.1.few, c.loop-next.invariant.2, c.clear.ensures.capacity, c.loop-next.bytes.ok.0));
     }
 
 pub returns-in-Ok-None : goal.returns-in-Ok-None
