@@ -6,7 +6,7 @@ pub invariant_of-self : goal.invariant_of-self
 invariant_of-self c =
     let s = c.args.self.now in
     let there : c.args.set < length s.rows = search rules in
-    (once_moved s.rows s.geometry.ways c.args.set c.args.way c.moved_to_end.result c.moved_to_end.ensures 8 s.once there, tt)
+    record { once = once_moved s.rows s.geometry.ways c.args.set c.args.way c.moved_to_end.result c.moved_to_end.ensures 8 s.once there }
 
 pub returns : goal.returns
 returns c =

@@ -8,4 +8,4 @@ use Rattle.std.specs.List.{range_with_len}
 pub invariant_of-result : goal.invariant_of-result
 invariant_of-result c =
     let g = c.args.geometry in
-    (λ k h w. ap (λ row. times w (take g.ways row)) (get_or-replicate 8 k (range_with_len 0 8) [] h) ∙ starts 8 g.ways (count_small g.ways g.ways_count) w, tt)
+    record { once = λ k h w. ap (λ row. times w (take g.ways row)) (get_or-replicate 8 k (range_with_len 0 8) [] h) ∙ starts 8 g.ways (count_small g.ways g.ways_count) w }
