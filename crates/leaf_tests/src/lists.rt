@@ -47,9 +47,9 @@ fn lines_leave_by_number(rt: HostRuntime) -> Result<(), Fail> {
     assert!(rt; queue.push(second).is_ok());
     assert!(rt; queue.push(third).is_ok());
     assert!(rt; queue.take(3) == Some((1, second)));
-    assert!(rt; queue.as_slice() == [first, third]);
+    assert!(rt; queue.as_slice() == [first, third].as_slice());
     assert!(rt; queue.take(3) == None);
-    assert!(rt; queue.as_slice() == [first, third]);
+    assert!(rt; queue.as_slice() == [first, third].as_slice());
     Ok(())
 }
 
@@ -62,6 +62,6 @@ fn a_full_list_hands_the_ticket_back(rt: HostRuntime) -> Result<(), Fail> {
     assert_eq!(rt; tickets.len(), 2);
     assert!(rt; tickets.take(5) == Some((0, Ticket(5))));
     assert!(rt; tickets.push(Ticket(8)).is_ok());
-    assert!(rt; tickets.as_slice() == [Ticket(6), Ticket(8)]);
+    assert!(rt; tickets.as_slice() == [Ticket(6), Ticket(8)].as_slice());
     Ok(())
 }

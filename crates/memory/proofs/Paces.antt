@@ -1,5 +1,5 @@
 -- steps, one after another: what is owed falls while a ticket is open
-use Rattle.std.proofs.Common.{◌≡◌, ℕ, ◌+◌, ◌<◌, ◌≤◌, Bool, true, false, List, length, is_some, Some, None, Option, sym, refl, ap, ◌∙◌, arith}
+use Rattle.std.proofs.Common.{◌≡◌, ℕ, ◌+◌, ◌≤◌, Bool, true, false, List, is_some, Some, None, Option, sym, refl, ap, ◌∙◌, arith}
 use Rattle.memory.specs.Meaning.{Facts, Well, Open, Fixed, ContentsStay, Silent, Answered, StepMeans}
 use Rattle.memory.specs.Waiting.{Stepped}
 use Rattle.memory.specs.declared.replies.Answer.{Answer}

@@ -10,5 +10,5 @@ fn copy_is_the_trace(rt: HostRuntime) {
     let mut writer = Writer::new(&mut bytes);
     assert!(rt; copy(trace, &mut writer).is_ok());
     assert_eq!(rt; writer.written(), 32);
-    assert!(rt; &bytes[0..32] == trace);
+    assert!(rt; &bytes[0..32] == trace.as_slice());
 }
