@@ -53,7 +53,7 @@ ContentsStay s t = (line : ℕ) → t.contents line ≡ s.contents line
 pub record Opened (s : Facts) (ticket : ℕ) (reply : Reply) (t : Facts) : Type 0 where
   pub fresh : s.due ticket ≡ None
   pub opened : t.due ticket ≡ Some reply
-  pub others : (u : ℕ) → (u ≢ ticket) → t.due u ≡ s.due u
+  pub others : (u : ℕ) → u ≢ ticket → t.due u ≡ s.due u
   pub raised : t.owed ≤ s.owed + s.pace
 
 -- no fact is changed
@@ -116,7 +116,7 @@ pub record Answered (s : Facts) (before : List ℕ) (a : Answer) (t : Facts) (af
   pub contents_stay : ContentsStay s t
   pub shown : Shown (s.due a.ticket) a before after
   pub closed : t.due a.ticket ≡ None
-  pub others : (u : ℕ) → (u ≢ a.ticket) → t.due u ≡ s.due u
+  pub others : (u : ℕ) → u ≢ a.ticket → t.due u ≡ s.due u
   pub lowered : t.owed < s.owed
 
 -- what a step means
