@@ -1,4 +1,4 @@
-use Rattle.std.specs.Prelude.{ℕ, ◌/◌, ◌%◌, ◌^◌, Bool, cond, List, map, length, ◌==◌, slice_index}
+use Rattle.std.specs.Prelude.{ℕ, ◌/◌, ◌%◌, ◌^◌, Bool, if◌then◌else◌, List, map, length, ◌==◌, slice_index}
 use Rattle.std.specs.List.{range_with_len}
 
 -- whether bit i of a mask is 1
@@ -7,7 +7,7 @@ bit mask i = (mask / 2 ^ i) % 2 == 1
 
 -- byte i of a line that new bytes are laid on: the new one where bit i of the mask is 1, else the line's own
 abbrev pub laid_at : List ℕ → ℕ → List ℕ → ℕ → ℕ
-laid_at line mask new i = cond (bit mask i) (slice_index new i) (slice_index line i)
+laid_at line mask new i = if bit mask i then slice_index new i else slice_index line i
 
 -- a line that new bytes are laid on under a mask
 unfoldable pub laid : List ℕ → ℕ → List ℕ → List ℕ

@@ -1,9 +1,10 @@
-use Rattle.std.specs.Prelude.{◌≡◌, ℕ, zero, suc, ◌+◌, ◌-◌, ◌*◌, ◌/◌, ◌%◌, ◌^◌, ◌<◌, Bool, ◌&&◌, ◌||◌, List, [], ◌∷◌, ◌++◌, length, take, drop, replicate, ◌==◌, nat_le, nat_lt}
+use Rattle.std.specs.Prelude.{◌≡◌, ℕ, zero, suc, ◌+◌, ◌-◌, ◌*◌, ◌/◌, ◌%◌, ◌^◌, ◌<◌, Bool, ◌&&◌, List, [], ◌∷◌, ◌++◌, length, take, drop, replicate, nat_le, nat_lt}
+use Rattle.counts.specs.Counts.{is_count}
 use Rattle.line.specs.Laid.{laid}
 
 -- the sizes that a value may have, in bytes
 abbrev pub is_size : ℕ → Bool
-is_size size = size == 1 || (size == 2 || (size == 4 || size == 8))
+is_size size = is_count size
 
 -- whether a value may have that size, and lies within one line from that address up
 abbrev pub fits_line : ℕ → ℕ → Bool

@@ -2,7 +2,16 @@
 //! from 16 × l on.
 ghost use Rattle.std.specs.Prelude.{◌≡◌, length};
 ghost use Rattle.line.specs.Image.{holds, line_in, image_laid};
-ghost use Rattle.line.specs.Laid.{laid};
+ghost use Rattle.line.specs.Laid.{bit, laid};
+
+/// Whether bit i of a mask is 1.
+pub fn bit(mask: u16, i: usize) -> bool
+    ensures { result ≡ bit mask i }
+{
+    i < 16 && (mask >> i) % 2 == 1
+}
+
+// Mask and bytes are two arguments, as a memory's `write` takes them.
 
 /// The line with byte i replaced by that of `new` exactly where bit i of the mask is 1.
 pub fn lay(line: [u8; 16], mask: u16, new: [u8; 16]) -> [u8; 16]
@@ -18,9 +27,9 @@ fn lay_on(part: &mut [u8], mask: u16, new: [u8; 16])
     requires { length part.old ≡ 16 }
     ensures { part.new ≡ laid part.old mask new }
 {
-    for i in 0..16usize {
-        if (mask >> i) % 2 == 1 {
-            part[i] = new[i];
+    for (i, byte) in part.iter_mut().enumerate() {
+        if bit(mask, i) {
+            *byte = new[i];
         }
     }
 }
@@ -32,6 +41,7 @@ pub fn lay_at(image: &mut [u8], line: u32, mask: u16, new: [u8; 16]) -> bool
     ensures after { image.new ≡ image_laid image.old line mask new }
 {
     let at = 16 * line as usize;
+    // tests the length: of bytes written through what get_mut lends, a proof learns nothing
     if image.len() < at + 16 {
         return false;
     }
@@ -44,10 +54,5 @@ pub fn line_at(image: &[u8], line: u32) -> Option<[u8; 16]>
     ensures { result ≡ line_in image.now line }
 {
     let at = 16 * line as usize;
-    if image.len() < at + 16 {
-        return None;
-    }
-    let mut bytes = [0; 16];
-    bytes.copy_from_slice(&image[at..at + 16]);
-    Some(bytes)
+    image.get(at..at + 16)?.try_into().ok()
 }

@@ -1,17 +1,15 @@
-use Rattle.std.proofs.Common.{◌≤◌, sym, ap, ◌∙◌, arith, rules}
-use Rattle.line.proofs.Numbers.{eight_bytes, copied, laid_back}
+use Rattle.std.proofs.Common.{◌≤◌, arith, rules}
+use native.Mathlib.Nat.{div-div-eq-div-mul}
+use Rattle.line.proofs.Numbers.{copied, laid_back}
 use Rattle.line.proofs.span.Span.bytes.Goals as goal
-use Rattle.line.specs.Laid.{laid}
-use Rattle.line.specs.Values.{value_mask, value_in}
 use Rattle.std.proofs.lemmas.Bool.Decides.{nat_tests}
 
-pub returns : goal.returns
-returns c =
+pub returns-clause-value : goal.returns-clause-value
+returns-clause-value c =
     let s = c.args.self in
-    let v = c.args.value in
     let small : s.size ≤ 8 = grind (arith, nat_tests) in
-    let is = copied s.place s.size v c.to_le_bytes.result c.copy_from_slice.new.self s.inside small (c.to_le_bytes.ensures ∙ sym (eight_bytes v)) (search rules) in
-    record {
-      value = is;
-      back = λ line whole fits. ap (λ bytes. value_in s.place s.size (laid line (value_mask s.place s.size) bytes)) is ∙ laid_back s.place s.size v line s.inside whole fits;
-    }
+    rw (c.from-from.ensures, c.from-count.ensures)
+    (copied s.place s.size c.args.value c.to_le_bytes.result c.copy_from_slice.new.self s.inside small (simp div-div-eq-div-mul c.to_le_bytes.ensures) (search rules))
+
+pub returns-clause-back : goal.returns-clause-back
+returns-clause-back c = let s = c.args.self in rw (returns-clause-value c) (λ line whole fits. laid_back s.place s.size c.args.value line s.inside whole fits)
