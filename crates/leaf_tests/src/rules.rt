@@ -74,6 +74,6 @@ fn a_geometry_holds_small_powers_of_two(rt: HostRuntime) -> Result<(), Fail> {
     assert_eq!(rt; geometry.set_of(21), 5);
     assert!(rt; Geometry::new(3, 2).is_err());
     assert!(rt; Geometry::new(2, 0).is_err());
-    assert_eq!(rt; Refusal::Counts.code(), 10);
+    assert_eq!(rt; u8::from(Refusal::Counts), 10);
     Ok(())
 }

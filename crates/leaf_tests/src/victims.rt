@@ -6,8 +6,8 @@ use replacement::rule::Replacement;
 
 /// The way of a set that is replaced first: the first in its order. There is one exactly where there is such a set.
 pub fn next_victim<R: Replacement>(rule: &R, set: usize) -> Option<usize>
-    ensures value { result ≡ (if nat_lt set (R.Replacement.sets rule.now) then front (R.Replacement.order rule.now set) else None) }
-    ensures test { is_some result ≡ nat_lt set (R.Replacement.sets rule.now) }
+    ensures value { result ≡ (if nat_lt set (R.geometry rule.now).sets then front (R.order rule.now set) else None) }
+    ensures test { is_some result ≡ nat_lt set (R.geometry rule.now).sets }
 {
     rule.pick(set, u8::MAX)
 }

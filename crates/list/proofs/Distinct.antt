@@ -1,8 +1,11 @@
 -- lists in which no two entries have the same key
-use Rattle.std.proofs.Common.{◌≡◌, ℕ, zero, suc, ◌<◌, ◌≤◌, Bool, true, false, cond, eqb, List, [], ◌∷◌, ◌++◌, length, get_or, is_some as option_is_some, Some, None, Option, sym, refl, ap, ◌∙◌, arith, eq-eqb, ne_eqb, eqb-true}
+use Rattle.std.proofs.Common.{◌≡◌, ℕ, zero, suc, ◌<◌, ◌≤◌, Bool, true, false, cond, eqb, ltb, List, [], ◌∷◌, ◌++◌, length, get_or, is_some as option_is_some, Some, None, Option, sym, refl, ap, ◌∙◌, arith, eq-eqb, ne_eqb, eqb-true}
 use Rattle.list.specs.Entries.{entry_at}
 use Rattle.list.specs.Keyed.{place_of, entry_of, without, Distinct}
-use Rattle.std.specs.Option.{option_map}
+use Rattle.std.proofs.lemmas.List.Folds.{find-append, find_at}
+use Rattle.std.specs.List.{position_or_len}
+use Rattle.std.proofs.lemmas.Bool.{ltb-true, ltb-false}
+use Rattle.std.proofs.lemmas.Option.{slice_get-get_or, slice_get_past}
 
 -- an entry within the list
 pub entry_within : {X : Type 0} (xs : List X) (i : ℕ) (d : X) → i < length xs → entry_at i xs ≡ Some (get_or xs i d)
@@ -16,39 +19,32 @@ entry_past (x ∷ xs) zero h = absurd (omega arith)
 entry_past (x ∷ xs) (suc i) h = entry_past xs i (omega arith)
 
 module _ {X : Type 0} (key : X → ℕ) where
-  next_place : (r : Option ℕ) (i : ℕ) → option_map (λ k. suc k) r ≡ Some i → (j : ℕ) × ((r ≡ Some j) × (i ≡ suc j))
-  next_place None i e = absurd (let z : ◌≡◌ {A = ℕ} 0 1 = cc in omega arith)
-  next_place (Some k) i e = (k, (refl, cc))
-
-  no_place : (r : Option ℕ) → option_map (λ k. suc k) r ≡ None → r ≡ None
-  no_place None e = refl
-  no_place (Some k) e = absurd (let z : ◌≡◌ {A = ℕ} 0 1 = cc in omega arith)
-
-  found_step : (x d : X) (xs : List X) (i : ℕ) (b : Bool) (r : Option ℕ) (t : Option X) → cond b (Some 0) (option_map (λ k. suc k) r) ≡ Some i → ((j : ℕ) → r ≡ Some j → t ≡ Some (get_or xs j d)) → cond b (Some x) t ≡ Some (get_or (x ∷ xs) i d)
-  found_step x d xs i true r t e rest = let z : i ≡ 0 = cc in rw z refl
-  found_step x d xs i false r t e rest = let n = next_place r i e in rw n.1.1 (rest n.0 n.1.0)
-
   -- the entry at the place where the key was found
   pub found_entry : (sought : ℕ) (xs : List X) (i : ℕ) (d : X) → place_of key sought xs ≡ Some i → entry_of key sought xs ≡ Some (get_or xs i d)
-  found_entry sought [] i d e = absurd (let z : ◌≡◌ {A = ℕ} 0 1 = cc in omega arith)
-  found_entry sought (x ∷ xs) i d e = found_step x d xs i (eqb (key x) sought) (place_of key sought xs) (entry_of key sought xs) e (λ j. found_entry sought xs j d)
+  found_entry sought xs i d e = go (ltb n (length xs)) refl e
+    where
+      n : ℕ
+      n = position_or_len (λ x. eqb (key x) sought) xs
 
-  missed_step : (x : X) (b : Bool) (r : Option ℕ) (t : Option X) → cond b (Some 0) (option_map (λ k. suc k) r) ≡ None → (r ≡ None → t ≡ None) → cond b (Some x) t ≡ None
-  missed_step x true r t e rest = absurd (let z : ◌≡◌ {A = ℕ} 0 1 = cc in omega arith)
-  missed_step x false r t e rest = rest (no_place r e)
+      go : (b : Bool) → ltb n (length xs) ≡ b → cond b (Some n) None ≡ Some i → entry_of key sought xs ≡ Some (get_or xs i d)
+      go true t e =
+          let same : n ≡ i = cc in
+          find_at (λ x. eqb (key x) sought) xs ∙ slice_get-get_or xs n d (ltb-true n (length xs) t) ∙ ap (λ k. Some (get_or xs k d)) same
+      go false t e = absurd (let z : ◌≡◌ {A = ℕ} 0 1 = cc in omega arith)
 
   pub missed_entry : (sought : ℕ) (xs : List X) → place_of key sought xs ≡ None → entry_of key sought xs ≡ None
-  missed_entry sought [] e = refl
-  missed_entry sought (x ∷ xs) e = missed_step x (eqb (key x) sought) (place_of key sought xs) (entry_of key sought xs) e (missed_entry sought xs)
+  missed_entry sought xs e = go (ltb n (length xs)) refl e
+    where
+      n : ℕ
+      n = position_or_len (λ x. eqb (key x) sought) xs
+
+      go : (b : Bool) → ltb n (length xs) ≡ b → cond b (Some n) None ≡ None → entry_of key sought xs ≡ None
+      go true t e = absurd (let z : ◌≡◌ {A = ℕ} 0 1 = cc in omega arith)
+      go false t e = find_at (λ x. eqb (key x) sought) xs ∙ slice_get_past xs n (ltb-false n (length xs) t)
 
   -- behind entries without its key an entry is found
-  push_step : (x y : X) (b : Bool) (t u : Option X) → cond b (Some x) t ≡ None → (t ≡ None → u ≡ Some y) → cond b (Some x) u ≡ Some y
-  push_step x y true t u e rest = absurd (let z : ◌≡◌ {A = ℕ} 0 1 = cc in omega arith)
-  push_step x y false t u e rest = rest e
-
   pub push_found : (xs : List X) (y : X) → entry_of key (key y) xs ≡ None → entry_of key (key y) (xs ++ (y ∷ [])) ≡ Some y
-  push_found [] y e = rw (eq-eqb (key y) (key y) refl) refl
-  push_found (x ∷ xs) y e = push_step x y (eqb (key x) (key y)) (entry_of key (key y) xs) (entry_of key (key y) (xs ++ (y ∷ []))) e (push_found xs y)
+  push_found xs y e = find-append (λ x. eqb (key x) (key y)) xs (y ∷ []) ∙ (rw e (rw (eq-eqb (key y) (key y) refl) refl))
 
   -- other keys find what they found before
   pub push_other : (xs : List X) (y : X) (k : ℕ) → (k ≡ key y → ⊥) → entry_of key k (xs ++ (y ∷ [])) ≡ entry_of key k xs

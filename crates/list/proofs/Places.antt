@@ -1,17 +1,15 @@
 -- the first entry that has a key: where it stands, and what is left when it goes
-use Rattle.std.proofs.Common.{◌≡◌, ℕ, suc, ◌+◌, ◌-◌, ◌<◌, Bool, true, false, cond, eqb, List, [], ◌∷◌, ◌++◌, length, get_or, take, drop, Some, None, Option, sym, refl, ap, ◌∙◌, arith}
+use Rattle.std.proofs.Common.{◌≡◌, ℕ, suc, ◌+◌, ◌-◌, ◌<◌, Bool, true, false, cond, eqb, List, [], ◌∷◌, ◌++◌, length, take, drop, Some, None, Option, sym, refl, ap, ◌∙◌, arith, not, ltb}
 use borrow.Rule.Slice.PartMut.{put_mid}
 use Rattle.list.specs.Keyed.{taken, place_of, without, moved}
-use Rattle.std.proofs.lemmas.List.{append-nil, drop_all, drop-drop, drop_more, length-drop, same_from_push, take_rest}
+use Rattle.std.proofs.lemmas.List.{append-nil, drop_all, drop-drop, length-drop, same_from_push, take_rest}
+use Rattle.std.specs.List.{prefix_len}
 use Rattle.std.specs.Option.{option_map}
+use Rattle.std.proofs.lemmas.Bool.Decides.{nat_tests}
 
--- a place that is found from i on, counted from the front
-abbrev pub later : ℕ → Option ℕ → Option ℕ
-later i r = option_map (λ k. i + k) r
-
-later_more : (i : ℕ) (r : Option ℕ) → later i (option_map (λ k. suc k) r) ≡ later (i + 1) r
-later_more i None = refl
-later_more i (Some k) = ap (λ n. Some n) (omega arith)
+place_step : (b : Bool) (n long : ℕ) → cond (ltb (cond (not b) (1 + n) 0) (suc long)) (Some (cond (not b) (1 + n) 0)) None ≡ cond b (Some 0) (option_map (λ k. suc k) (cond (ltb n long) (Some n) None))
+place_step true n long = grind (arith, nat_tests)
+place_step false n long = grind (arith, nat_tests)
 
 next_some : (r : Option ℕ) (i : ℕ) → option_map (λ k. suc k) r ≡ Some i → (j : ℕ) × ((r ≡ Some j) × (i ≡ suc j))
 next_some None i e = absurd (let z : ◌≡◌ {A = ℕ} 0 1 = cc in omega arith)
@@ -31,16 +29,9 @@ abbrev pub Stays : {X : Type 0} → List X → Option (ℕ × X) → List X → 
 Stays xs took left after = (took ≡ None) × (left ≡ xs) × (after ≡ xs)
 
 module _ {X : Type 0} (key : X → ℕ) (sought : ℕ) where
-  read_at : (xs : List X) (i : ℕ) (x : X) → i < length xs → x ≡ get_or xs i x → drop i xs ≡ x ∷ drop (i + 1) xs
-  read_at xs i x h read = drop_more xs i x h ∙ ap (λ y. y ∷ drop (i + 1) xs) (sym read)
-
-  pub found_at : (xs : List X) (i : ℕ) (x : X) → i < length xs → x ≡ get_or xs i x → eqb (key x) sought ≡ true → later i (place_of key sought (drop i xs)) ≡ Some i
-  found_at xs i x h read e =
-      ap (λ ys. later i (place_of key sought ys)) (read_at xs i x h read) ∙ rw e (ap (λ n. Some n) (omega arith))
-
-  pub passed_at : (xs : List X) (i : ℕ) (x : X) → i < length xs → x ≡ get_or xs i x → eqb (key x) sought ≡ false → later (i + 1) (place_of key sought (drop (i + 1) xs)) ≡ later i (place_of key sought (drop i xs))
-  passed_at xs i x h read e =
-      sym (ap (λ ys. later i (place_of key sought ys)) (read_at xs i x h read) ∙ rw e (later_more i (place_of key sought (drop (i + 1) xs))))
+  -- where a place is found behind a first entry
+  place_behind : (x : X) (xs : List X) → place_of key sought (x ∷ xs) ≡ cond (eqb (key x) sought) (Some 0) (option_map (λ k. suc k) (place_of key sought xs))
+  place_behind x xs = place_step (eqb (key x) sought) (prefix_len (λ y. not (eqb (key y) sought)) xs) (length xs)
 
   goes_step : (x : X) (xs : List X) (b : Bool) (i : ℕ) → cond b (Some 0) (option_map (λ k. suc k) (place_of key sought xs)) ≡ Some i → ((j : ℕ) → place_of key sought xs ≡ Some j → Goes xs j (taken key sought xs) (without key sought xs) (moved key sought xs)) → Goes (x ∷ xs) i (cond b (Some (0, x)) (option_map (λ p. (suc p.0, p.1)) (taken key sought xs))) (cond b xs (x ∷ without key sought xs)) (cond b (xs ++ (x ∷ [])) (x ∷ moved key sought xs))
   goes_step x xs true i e rest = let z : i ≡ 0 = cc in rw z (x, omega arith, refl, refl, refl)
@@ -52,7 +43,7 @@ module _ {X : Type 0} (key : X → ℕ) (sought : ℕ) where
   -- an entry that was found goes
   pub goes : (xs : List X) (i : ℕ) → place_of key sought xs ≡ Some i → Goes xs i (taken key sought xs) (without key sought xs) (moved key sought xs)
   goes [] i e = absurd (let z : ◌≡◌ {A = ℕ} 0 1 = cc in omega arith)
-  goes (x ∷ xs) i e = goes_step x xs (eqb (key x) sought) i e (goes xs)
+  goes (x ∷ xs) i e = goes_step x xs (eqb (key x) sought) i (sym (place_behind x xs) ∙ e) (goes xs)
 
   stays_step : (x : X) (xs : List X) (b : Bool) → cond b (Some 0) (option_map (λ k. suc k) (place_of key sought xs)) ≡ None → (place_of key sought xs ≡ None → Stays xs (taken key sought xs) (without key sought xs) (moved key sought xs)) → Stays (x ∷ xs) (cond b (Some (0, x)) (option_map (λ p. (suc p.0, p.1)) (taken key sought xs))) (cond b xs (x ∷ without key sought xs)) (cond b (xs ++ (x ∷ [])) (x ∷ moved key sought xs))
   stays_step x xs true e rest = absurd (let z : ◌≡◌ {A = ℕ} 0 1 = cc in omega arith)
@@ -63,7 +54,7 @@ module _ {X : Type 0} (key : X → ℕ) (sought : ℕ) where
   -- where none was found all stay
   pub stays : (xs : List X) → place_of key sought xs ≡ None → Stays xs (taken key sought xs) (without key sought xs) (moved key sought xs)
   stays [] e = (refl, refl, refl)
-  stays (x ∷ xs) e = stays_step x xs (eqb (key x) sought) e (stays xs)
+  stays (x ∷ xs) e = stays_step x xs (eqb (key x) sought) (sym (place_behind x xs) ∙ e) (stays xs)
 
   -- ys was lent as xs: where none was found, zs is what was there, and none is taken
   pub none_taken : (xs ys zs : List X) → ys ≡ xs → None ≡ place_of key sought ys → zs ≡ moved key sought ys → (None ≡ taken key sought xs) × (zs ≡ without key sought xs)

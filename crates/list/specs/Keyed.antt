@@ -1,30 +1,28 @@
-use Rattle.std.specs.Prelude.{◌≡◌, ℕ, suc, cond, List, [], ◌∷◌, ◌++◌, Some, None, Option, ◌==◌}
+use Rattle.std.specs.Prelude.{◌≡◌, find, position, ℕ, suc, if◌then◌else◌, List, [], ◌∷◌, ◌++◌, Some, None, Option, ◌==◌}
 use Rattle.std.specs.Option.{option_map}
 
 -- the place where the first entry that has the key sought stands, and that entry
 abbrev pub taken : {X : Type 0} → (X → ℕ) → ℕ → List X → Option (ℕ × X)
 taken key sought [] = None
-taken key sought (x ∷ xs) = cond (key x == sought) (Some (0, x)) (option_map (λ p. (suc p.0, p.1)) (taken key sought xs))
+taken key sought (x ∷ xs) = if key x == sought then Some (0, x) else option_map (λ p. (suc p.0, p.1)) (taken key sought xs)
 
 -- that place alone
 abbrev pub place_of : {X : Type 0} → (X → ℕ) → ℕ → List X → Option ℕ
-place_of key sought [] = None
-place_of key sought (x ∷ xs) = cond (key x == sought) (Some 0) (option_map (λ i. suc i) (place_of key sought xs))
+place_of key sought xs = position (λ x. key x == sought) xs
 
 -- that entry alone
 abbrev pub entry_of : {X : Type 0} → (X → ℕ) → ℕ → List X → Option X
-entry_of key sought [] = None
-entry_of key sought (x ∷ xs) = cond (key x == sought) (Some x) (entry_of key sought xs)
+entry_of key sought xs = find (λ x. key x == sought) xs
 
 -- all entries but that one, in their order
 abbrev pub without : {X : Type 0} → (X → ℕ) → ℕ → List X → List X
 without key sought [] = []
-without key sought (x ∷ xs) = cond (key x == sought) xs (x ∷ without key sought xs)
+without key sought (x ∷ xs) = if key x == sought then xs else x ∷ without key sought xs
 
 -- all entries but that one, in their order, and then that one
 abbrev pub moved : {X : Type 0} → (X → ℕ) → ℕ → List X → List X
 moved key sought [] = []
-moved key sought (x ∷ xs) = cond (key x == sought) (xs ++ (x ∷ [])) (x ∷ moved key sought xs)
+moved key sought (x ∷ xs) = if key x == sought then xs ++ (x ∷ []) else x ∷ moved key sought xs
 
 -- no two entries have the same key
 abbrev pub Distinct : {X : Type 0} → (X → ℕ) → List X → Type 0

@@ -21,27 +21,21 @@ impl Keyed for u8 {
     }
 }
 
+// Entries and key are two arguments: the removal is one function over a slice, for lists of every kind.
+
 /// The place of the first entry that has the key, or nothing where none has it.
 pub fn find<T: Keyed>(entries: &[T], sought: u32) -> Option<usize>
     ensures place { result ≡ place_of T.key sought entries.now }
     ensures within { IfSome result (λ i. i < length entries.now) }
 {
-    for (i, entry) in entries.iter().enumerate() {
-        if entry.key_of() == sought {
-            return Some(i);
-        }
-    }
-    None
+    entries.iter().position(|entry| entry.key_of() == sought)
 }
 
 /// The first entry that has the key, or nothing where none has it.
 pub fn entry_of<T: Keyed>(entries: &[T], sought: u32) -> Option<&T>
     ensures { option_map (λ x. x.now) result ≡ entry_of T.key sought entries.now }
 {
-    match find(entries, sought) {
-        Some(i) => Some(&entries[i]),
-        None => None,
-    }
+    entries.iter().find(|entry| entry.key_of() == sought)
 }
 
 /// Moves the first entry that has the key behind all others, which keep their order, and answers the place where it
@@ -51,9 +45,7 @@ pub fn take_out<T: Keyed>(entries: &mut [T], sought: u32) -> Option<usize>
     ensures within { IfSome result (λ i. i < length entries.old) }
     ensures after { entries.new ≡ moved T.key sought entries.old }
 {
-    let Some(i) = find(entries, sought) else {
-        return None;
-    };
+    let i = find(entries, sought)?;
     entries[i..].rotate_left(1);
     Some(i)
 }

@@ -2,5 +2,4 @@
 #![tactic(auto)]
 
 pub mod bounded;
-mod calls;
 pub mod keyed;

@@ -1,20 +1,14 @@
 -- orders in which each way stands once
-use Rattle.std.proofs.Common.{◌≡◌, ℕ, zero, suc, ◌+◌, ◌%◌, ◌^◌, ◌<◌, ◌≤◌, Bool, true, false, cond, ◌&&◌, eqb, ltb, leb, List, [], ◌∷◌, ◌++◌, length, get_or, take, drop, set, Some, None, Option, sym, refl, ap, ◌∙◌, ⊎_elim, arith, pow_mono}
-use native.Mathlib.Nat.{div-eq_of_lt}
+use Rattle.std.proofs.Common.{◌≡◌, ℕ, zero, suc, ◌+◌, ◌<◌, ◌≤◌, Bool, true, false, cond, ◌&&◌, eqb, ltb, leb, List, [], ◌∷◌, ◌++◌, length, get_or, take, set, Some, None, Option, sym, refl, ap, ◌∙◌, ⊎_elim, arith}
 use Rattle.line.specs.Laid.{bit}
-use Rattle.replacement.specs.Counts.{is_count}
+use Rattle.counts.specs.Counts.{is_count}
 use Rattle.replacement.specs.Orders.{times, EachOnce, first_offered, Chosen, told}
 use Rattle.replacement.specs.Ranks.{moved_to_end}
-use Rattle.std.proofs.lemmas.List.{at_drop_more, get_or-set_same, get_or-set_other}
-use Rattle.std.proofs.lemmas.Bool.{cases_eq, cond-true, cond-false}
+use Rattle.replacement.specs.declared.geometry.Geometry.{Geometry}
+use Rattle.std.proofs.lemmas.List.{get_or-set_same, get_or-set_other, take_at}
+use Rattle.std.proofs.lemmas.Bool.{cases_eq}
 use Rattle.std.proofs.lemmas.Bool.Decides.{nat_tests}
 use Rattle.std.specs.List.{range_with_len}
-
--- a mask of 8 bits has no bit from 8 up
-pub no_high_bit : (mask i : ℕ) → mask < 256 → 8 ≤ i → bit mask i ≡ false
-no_high_bit mask i small high =
-    let below : mask < 2 ^ i = omega (arith, pow_mono {i = 8} {j = i} high) in
-    ap (λ n. eqb (n % 2) 1) (div-eq_of_lt below)
 
 -- no count is above 8
 pub count_small : (n : ℕ) → is_count n ≡ true → n ≤ 8
@@ -69,50 +63,44 @@ first_none : (m w : ℕ) (xs : List ℕ) → None ≡ first_offered m xs → 0 <
 first_none m w [] e stands = absurd (omega arith)
 first_none m w (x ∷ xs) e stands = none_step m w x xs (bit m x) refl e stands (first_none m w xs)
 
--- what a walk over an order finds at place i
-pub offered_here : (m : ℕ) (xs : List ℕ) (i : ℕ) → i < length xs → true ≡ bit m (get_or xs i 0) → first_offered m (drop i xs) ≡ Some (get_or xs i 0)
-offered_here m xs i h is =
-    at_drop_more (first_offered m) xs i 0 h ∙ cond-true (bit m (get_or xs i 0)) (Some (get_or xs i 0)) (first_offered m (drop (i + 1) xs)) (sym is)
-
-pub passed_here : (m : ℕ) (xs : List ℕ) (i : ℕ) → i < length xs → false ≡ bit m (get_or xs i 0) → first_offered m (drop (i + 1) xs) ≡ first_offered m (drop i xs)
-passed_here m xs i h is =
-    sym (at_drop_more (first_offered m) xs i 0 h ∙ cond-false (bit m (get_or xs i 0)) (Some (get_or xs i 0)) (first_offered m (drop (i + 1) xs)) (sym is))
-
 -- of an order in which each way stands once, one of the set's ways is picked exactly where one is offered
-pub chosen : (sets ways set offered : ℕ) (order : List ℕ) (r : Option ℕ) → set < sets → EachOnce ways order → r ≡ first_offered offered order → Chosen sets ways set offered r
-chosen sets ways set offered order None inside once e = λ there w below. first_none offered w order e (let one = once w in grind (arith, nat_tests))
-chosen sets ways set offered order (Some w) inside once e =
+pub chosen : (g : Geometry) (set offered : ℕ) (order : List ℕ) (r : Option ℕ) → set < g.sets → EachOnce g.ways order → r ≡ first_offered offered order → Chosen g set offered r
+chosen g set offered order None inside once e = λ there w below. first_none offered w order e (let one = once w in grind (arith, nat_tests))
+chosen g set offered order (Some w) inside once e =
     let s = first_some offered w order e in
     let one = once w in
-    let below : w < ways = grind (arith, nat_tests) in
+    let below : w < g.ways = grind (arith, nat_tests) in
     (inside, below, s.0)
 
-module _ (rows : List (List ℕ)) (ways i way : ℕ) (row : List ℕ) (row_moved : take ways row ≡ moved_to_end way (take ways (get_or rows i []))) where
+-- row i of the rows gets a new order in front, in which the way was moved to the end
+module _ (g : Geometry) (rows : List (List ℕ)) (i way : ℕ) (order rest : List ℕ) (long : length order ≡ g.ways) (after : order ≡ moved_to_end way (take g.ways (get_or rows i []))) where
+  row_moved : take g.ways (order ++ rest) ≡ moved_to_end way (take g.ways (get_or rows i []))
+  row_moved = take_at order rest g.ways long ∙ after
+
   -- each way still stands once in each set
-  pub once_moved : (n : ℕ) → ((k : ℕ) → k < n → EachOnce ways (take ways (get_or rows k []))) → i < length rows → (k : ℕ) → k < n → EachOnce ways (take ways (get_or (set rows i row) k []))
+  pub once_moved : (n : ℕ) → ((k : ℕ) → k < n → EachOnce g.ways (take g.ways (get_or rows k []))) → i < length rows → (k : ℕ) → k < n → EachOnce g.ways (take g.ways (get_or (set rows i (order ++ rest)) k []))
   once_moved n once there k below w =
       ⊎_elim
       (λ same.
-      ap (λ j. times w (take ways (get_or (set rows i row) j []))) same
-      ∙ ap (λ r. times w (take ways r)) (get_or-set_same rows i row [] there)
+      ap (λ j. times w (take g.ways (get_or (set rows i (order ++ rest)) j []))) same
+      ∙ ap (λ r. times w (take g.ways r)) (get_or-set_same rows i (order ++ rest) [] there)
       ∙ ap (times w) row_moved
-      ∙ times_moved w way (take ways (get_or rows i []))
+      ∙ times_moved w way (take g.ways (get_or rows i []))
       ∙ once i (omega arith) w)
-      (λ other. ap (λ r. times w (take ways r)) (get_or-set_other rows i k row [] other) ∙ once k below w)
+      (λ other. ap (λ r. times w (take g.ways r)) (get_or-set_other rows i k (order ++ rest) [] other) ∙ once k below w)
       (cases_eq k i)
 
   -- the set's order is the new one, and the others' stay
-  pub order_moved : (sets : ℕ) → i < sets → way < ways → i < length rows → (k : ℕ) → take ways (get_or (set rows i row) k []) ≡ told sets ways (λ j. take ways (get_or rows j [])) i way (moved_to_end way (take ways (get_or rows i []))) k
-  order_moved sets inside below there k =
+  pub order_moved : i < g.sets → way < g.ways → i < length rows → (k : ℕ) → take g.ways (get_or (set rows i (order ++ rest)) k []) ≡ told g (λ j. take g.ways (get_or rows j [])) i way (moved_to_end way (take g.ways (get_or rows i []))) k
+  order_moved inside below there k =
       ⊎_elim
       (λ same.
-      let told_so : (ltb i sets && (ltb way ways && eqb k i)) ≡ true = grind (arith, nat_tests) in
-      ap (λ j. take ways (get_or (set rows i row) j [])) same
-      ∙ ap (take ways) (get_or-set_same rows i row [] there)
-      ∙ row_moved
-      ∙ sym (cond-true (ltb i sets && (ltb way ways && eqb k i)) (moved_to_end way (take ways (get_or rows i []))) (take ways (get_or rows k [])) told_so))
+      let told_so : (ltb i g.sets && (ltb way g.ways && eqb k i)) ≡ true = grind (arith, nat_tests) in
+      rw told_so
+      (ap (λ j. take g.ways (get_or (set rows i (order ++ rest)) j [])) same
+      ∙ ap (take g.ways) (get_or-set_same rows i (order ++ rest) [] there)
+      ∙ row_moved))
       (λ other.
-      let not_so : (ltb i sets && (ltb way ways && eqb k i)) ≡ false = grind (arith, nat_tests) in
-      ap (take ways) (get_or-set_other rows i k row [] other)
-      ∙ sym (cond-false (ltb i sets && (ltb way ways && eqb k i)) (moved_to_end way (take ways (get_or rows i []))) (take ways (get_or rows k [])) not_so))
+      let not_so : (ltb i g.sets && (ltb way g.ways && eqb k i)) ≡ false = grind (arith, nat_tests) in
+      rw not_so (ap (take g.ways) (get_or-set_other rows i k (order ++ rest) [] other)))
       (cases_eq k i)

@@ -1,4 +1,3 @@
-pub mod Counts
 pub mod Orders
 pub mod Ranks
 pub mod Shapes

@@ -1,8 +1,8 @@
-use Rattle.std.specs.Prelude.{ℕ, cond, ◌&&◌, Ok, Err, Result}
+use Rattle.std.specs.Prelude.{ℕ, if◌then◌else◌, ◌&&◌, Ok, Err, Result}
 use Rattle.replacement.specs.declared.geometry.Geometry.{Geometry}
 use Rattle.replacement.specs.declared.refusal.Refusal.{Refusal}
 use Rattle.replacement.specs.declared.refusal.Refusal.TheVariants.{Counts}
-use Rattle.replacement.specs.Counts.{is_count}
+use Rattle.counts.specs.Counts.{is_count}
 
 -- the number of a refusal
 abbrev pub refusal_code : Refusal → ℕ
@@ -15,4 +15,4 @@ shape (Err r) = Err r
 
 -- what the making of a geometry answers
 abbrev pub geometry_answer : ℕ → ℕ → Result (ℕ × ℕ) Refusal
-geometry_answer sets ways = cond (is_count sets && is_count ways) (Ok (sets, ways)) (Err Counts)
+geometry_answer sets ways = if is_count sets && is_count ways then Ok (sets, ways) else Err Counts

@@ -1,11 +1,10 @@
 //! Sets and ways of a cache, and the rules that say which way of a set is replaced next.
 #![tactic(auto)]
 
+pub mod by_order;
 pub mod fifo;
 pub mod geometry;
 pub mod lru;
-mod making;
 mod orders;
-mod ranks;
 pub mod refusal;
 pub mod rule;

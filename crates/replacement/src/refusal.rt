@@ -1,6 +1,5 @@
 //! The refusal of a geometry, with its number.
 ghost use Rattle.std.specs.Prelude.{◌≡◌};
-ghost use Rattle.replacement.specs.Shapes.{refusal_code};
 
 /// Why no geometry is made.
 #[derive(Clone, Copy, PartialEq, Eq, Debug)]
@@ -9,12 +8,14 @@ pub enum Refusal {
     Counts,
 }
 
-impl Refusal {
-    /// The number of the refusal.
-    pub fn code(self) -> u8
-        ensures { result ≡ refusal_code self }
-    {
-        match self {
+/// The number of the refusal.
+impl From<Refusal> for u8 {
+    ghost use Rattle.replacement.specs.Shapes.{refusal_code};
+
+    ghost from_gives = { λ r n. n ≡ refusal_code r };
+
+    fn from(refusal: Refusal) -> u8 {
+        match refusal {
             Refusal::Counts => 10,
         }
     }

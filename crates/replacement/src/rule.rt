@@ -1,17 +1,19 @@
 //! What a replacement rule means.
-ghost use Rattle.std.specs.Prelude.{◌≡◌, ℕ, ◌<◌, true, List};
-ghost use Rattle.replacement.specs.Counts.{is_count};
+ghost use Rattle.std.specs.Prelude.{◌≡◌, ℕ, ◌<◌, List};
 ghost use Rattle.replacement.specs.Orders.{EachOnce, picked, Chosen, told};
 
 use crate::geometry::Geometry;
 
+// A set and a way, or a set and a mask, are two arguments: so whoever keeps a cache calls a rule, and out of range it does
+// nothing, where a type for both would have to refuse.
+
 /// A replacement rule: a geometry that never changes, and for each set an order of its ways, in which the first is the
 /// first to be replaced.
 pub trait Replacement {
-    // How many sets there are, and how many ways each has.
-    ghost sets: { Self → ℕ };
+    ghost use Rattle.replacement.specs.declared.geometry.Geometry.{Geometry};
 
-    ghost ways: { Self → ℕ };
+    // How many sets there are, and how many ways each has.
+    ghost geometry: { Self → Geometry };
 
     // The order of the ways of each set.
     ghost order: { Self → ℕ → List ℕ };
@@ -24,30 +26,24 @@ pub trait Replacement {
 
     /// How many sets and ways there are.
     fn geometry(&self) -> Geometry
-        ensures sets { result.sets ≡ sets self.now }
-        ensures ways { result.ways ≡ ways self.now };
+        ensures { result ≡ geometry self.now };
 
     /// The first way in the set's order that is offered, where bit w of the mask offers way w. No way is answered
     /// exactly where no way of the set is offered, or there is no such set.
     fn pick(&self, set: usize, offered: u8) -> Option<usize>
-        ensures value { result ≡ picked (sets self.now) (order self.now) set offered }
-        ensures cases { Chosen (sets self.now) (ways self.now) set offered result };
+        ensures value { result ≡ picked (geometry self.now).sets (order self.now) set offered }
+        ensures cases { Chosen (geometry self.now) set offered result };
 
     /// Tells of a hit on a way. Nothing changes where there is no such set or way.
     fn used(&mut self, set: usize, way: usize)
-        ensures sets { sets self.new ≡ sets self.old }
-        ensures ways { ways self.new ≡ ways self.old }
-        ensures order { (k : ℕ) → order self.new k ≡ told (sets self.old) (ways self.old) (order self.old) set way (uses self.old set way) k };
+        ensures geometry { geometry self.new ≡ geometry self.old }
+        ensures order { (k : ℕ) → order self.new k ≡ told (geometry self.old) (order self.old) set way (uses self.old set way) k };
 
     /// Tells that a way was filled. Nothing changes where there is no such set or way.
     fn filled(&mut self, set: usize, way: usize)
-        ensures sets { sets self.new ≡ sets self.old }
-        ensures ways { ways self.new ≡ ways self.old }
-        ensures order { (k : ℕ) → order self.new k ≡ told (sets self.old) (ways self.old) (order self.old) set way (fills self.old set way) k };
-
-    // Sets and ways are those of a geometry.
-    ghost counts: { (s : Self) → (is_count (sets s) ≡ true) × (is_count (ways s) ≡ true) };
+        ensures geometry { geometry self.new ≡ geometry self.old }
+        ensures order { (k : ℕ) → order self.new k ≡ told (geometry self.old) (order self.old) set way (fills self.old set way) k };
 
     // Each way of a set stands in its order exactly once.
-    ghost once: { (s : Self) (set : ℕ) → set < sets s → EachOnce (ways s) (order s set) };
+    ghost once: { (s : Self) (set : ℕ) → set < (geometry s).sets → EachOnce (geometry s).ways (order s set) };
 }

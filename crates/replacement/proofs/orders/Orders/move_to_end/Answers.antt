@@ -1,15 +1,28 @@
-use Rattle.std.proofs.Common.{◌<◌, length, refl, rules}
+use Rattle.std.proofs.Common.{◌≡◌, ◌<◌, length, take, get_or, [], ap, ◌∙◌, rules}
 use Rattle.replacement.proofs.Once.{once_moved, order_moved}
 use Rattle.replacement.proofs.orders.Orders.move_to_end.Goals as goal
+use Rattle.replacement.specs.Ranks.{moved_to_end}
+
+pub returns-clause-order : goal.returns-clause-order
+returns-clause-order c =
+    let s = c.args.self.now in
+    let g = s.geometry in
+    let there : c.args.set < length s.rows = search rules in
+    let inside : c.args.set < g.sets = search rules in
+    let below : c.args.way < g.ways = search rules in
+    let long : length c.take_out.new.entries ≡ g.ways = search rules in
+    let row : c.in-Some.row ≡ get_or s.rows c.args.set [] = search rules in
+    let few = ap (λ n. moved_to_end c.args.way (take n c.in-Some.row)) c.ways-ways.ensures in
+    let after = c.take_out.ensures.after ∙ few ∙ ap (λ r. moved_to_end c.args.way (take g.ways r)) row in
+    order_moved g s.rows c.args.set c.args.way _ _ long after inside below there
 
 pub invariant_of-self : goal.invariant_of-self
 invariant_of-self c =
     let s = c.args.self.now in
+    let g = s.geometry in
     let there : c.args.set < length s.rows = search rules in
-    record { once = once_moved s.rows s.geometry.ways c.args.set c.args.way c.moved_to_end.result c.moved_to_end.ensures 8 s.once there }
-
-pub returns : goal.returns
-returns c =
-    let s = c.args.self.now in
-    let there : c.args.set < length s.rows = search rules in
-    record { geometry = refl; order = order_moved s.rows s.geometry.ways c.args.set c.args.way c.moved_to_end.result c.moved_to_end.ensures s.geometry.sets c.if-set-self.false c.if-way-ways.false there }
+    let long : length c.take_out.new.entries ≡ g.ways = search rules in
+    let row : c.in-Some.row ≡ get_or s.rows c.args.set [] = search rules in
+    let few = ap (λ n. moved_to_end c.args.way (take n c.in-Some.row)) c.ways-ways.ensures in
+    let after = c.take_out.ensures.after ∙ few ∙ ap (λ r. moved_to_end c.args.way (take g.ways r)) row in
+    record { once = once_moved g s.rows c.args.set c.args.way _ _ long after 8 s.once there }
