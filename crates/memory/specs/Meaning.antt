@@ -1,4 +1,4 @@
-use Rattle.std.specs.Prelude.{◌≡◌, ℕ, ◌+◌, ◌<◌, ◌≤◌, true, cond, List, length, is_some, Some, None, Ok, Err, Option, Result, ◌==◌, ◌≢◌}
+use Rattle.std.specs.Prelude.{◌≡◌, ℕ, ◌+◌, ◌<◌, ◌≤◌, true, if◌then◌else◌, List, length, is_some, Some, None, Ok, Err, Option, Result, ◌==◌, ◌≢◌}
 use Rattle.line.specs.Laid.{laid}
 use Rattle.memory.specs.Replies.{read_due, write_due, written_on, kind_of, place_after}
 use Rattle.memory.specs.declared.refusal.Refusal.{Refusal}
@@ -82,7 +82,7 @@ ReadMeans s line (Err refusal) t = Refused s line refusal t
 
 -- the contents after a write: a good line has the new bytes laid on, a bad one and all others stay
 abbrev pub written : Facts → ℕ → ℕ → List ℕ → ℕ → List ℕ
-written f line mask new k = cond (k == line) (written_on (f.bad line) (f.contents line) (laid (f.contents line) mask new)) (f.contents k)
+written f line mask new k = if k == line then written_on (f.bad line) (f.contents line) (laid (f.contents line) mask new) else f.contents k
 
 -- a write is taken: it is laid on the contents at this moment, and its reply is "done", or the line's fault
 pub record WriteTaken (s : Facts) (line mask : ℕ) (new : List ℕ) (ticket : ℕ) (t : Facts) : Type 0 where

@@ -11,12 +11,12 @@ pub enum Refusal {
     Busy,
 }
 
-impl Refusal {
-    /// The number of the refusal.
-    pub fn code(self) -> u8
-        ensures { result ≡ refusal_code self }
-    {
-        match self {
+/// The number of the refusal.
+impl From<Refusal> for u8 {
+    ghost from_gives = { λ refusal n. n ≡ refusal_code refusal };
+
+    fn from(refusal: Refusal) -> u8 {
+        match refusal {
             Refusal::NoLine => 11,
             Refusal::Busy => 23,
         }

@@ -11,6 +11,7 @@ pub struct Fault {
 }
 
 /// The answer that is due to an open request.
+// No `Result`: a fault answers a request as a line does, and nothing passes it on by `?`.
 #[derive(Clone, Copy, PartialEq, Eq, Debug)]
 pub enum Reply {
     /// The bytes of a line that was read.
@@ -22,6 +23,8 @@ pub enum Reply {
 }
 
 /// What a step tells of a reply. The bytes of a line are in the place that was lent to the step.
+// Not a `Reply` over `()` in place of the bytes: the two meet in `deliver` alone, and a line without bytes would not say
+// that it was read.
 #[derive(Clone, Copy, PartialEq, Eq, Debug)]
 pub enum Kind {
     Read,
