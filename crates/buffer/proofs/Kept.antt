@@ -1,12 +1,11 @@
 -- what is kept of bytes that are appended one part after another
-use Rattle.std.proofs.Common.{◌≡◌, ℕ, zero, suc, ◌+◌, ◌-◌, ◌≤◌, min, List, [], ◌∷◌, ◌++◌, length, take, sym, refl, ap, ◌∙◌, ⊎_elim, arith}
+use Rattle.std.proofs.Common.{◌≡◌, ℕ, zero, suc, ◌+◌, ◌-◌, ◌≤◌, min, List, [], ◌∷◌, ◌++◌, length, take, drop, replicate, sym, refl, ap, ◌∙◌, arith}
 use borrow.Rule.Slice.PartMut.{put_mid}
 use lib.Seq.{take-append-add}
-use Rattle.buffer.specs.declared.Buffer.{Buffer}
-use Rattle.buffer.specs.Held.{held, kept}
-use Rattle.std.proofs.lemmas.List.{append_assoc, take_all, length-take, length-take-le}
-use Rattle.std.proofs.lemmas.Slice.{take-put_mid}
-use Rattle.std.proofs.lemmas.Bool.{cases_lt}
+use Rattle.buffer.specs.Kept.{kept, padded}
+use Rattle.std.proofs.lemmas.List.{append_assoc, take-append-drop, drop-drop, drop-replicate, drop_at, take_all, take_min, length-append, length-take-le}
+use Rattle.std.proofs.lemmas.Slice.{take-put_mid, drop-put_mid}
+use Rattle.std.proofs.lemmas.Grind.{common_steps}
 
 -- bytes that fit are all kept
 pub kept_all : (a : List ℕ) → length a ≤ 1024 → kept a ≡ a
@@ -29,34 +28,38 @@ kept_more xs ys before after = after ∙ ap (λ zs. kept (zs ++ ys)) before ∙ 
 pub appended : {g k : List ℕ} (h a b : List ℕ) → g ≡ kept (h ++ a) → k ≡ kept (g ++ b) → k ≡ kept (h ++ (a ++ b))
 appended h a b first second = kept_more (h ++ a) b first second ∙ ap kept (append_assoc h a b)
 
-take_min : (m : ℕ) (ys : List ℕ) → take (min (length ys) m) ys ≡ take m ys
-take_min m ys =
-    ⊎_elim (λ h. let e : min (length ys) m ≡ m = omega arith in ap (λ k. take k ys) e)
-    (λ h. take_all (min (length ys) m) ys (omega arith) ∙ sym (take_all m ys h))
-    (cases_lt m (length ys))
-
--- a part of `more` as long as the room that is left
-kept_part : (xs more : List ℕ) (n : ℕ) → length xs ≡ n → n ≤ 1024 → xs ++ take (min (length more) (1024 - n)) more ≡ kept (xs ++ more)
-kept_part xs more n e h =
-    let room : length xs + (1024 - n) ≡ 1024 = omega arith in
-    ap (λ ys. xs ++ ys) (take_min (1024 - n) more)
-    ∙ sym (take-append-add xs more (1024 - n))
-    ∙ ap (λ k. take k (xs ++ more)) room
-
--- the bytes after such a part was copied to place n
-pub kept_extend : (bytes part more : List ℕ) (n count k : ℕ) → length bytes ≡ 1024 → n ≤ 1024 → count ≡ min (length more) (1024 - n) → part ≡ take (count - 0) more → take (n + count) (put_mid n k bytes part) ≡ kept (take n bytes ++ more)
+-- the bytes after as much of `more` as there is room for was copied to place n
+pub kept_extend : (bytes part more : List ℕ) (n count k : ℕ) → length bytes ≡ 1024 → n ≤ 1024 → count ≡ min (1024 - n) (length more) → part ≡ take (count - 0) more → take (n + count) (put_mid n k bytes part) ≡ kept (take n bytes ++ more)
 kept_extend bytes part more n count k long h fits copied =
-    let same : count - 0 ≡ min (length more) (1024 - n) = omega arith in
-    let is : part ≡ take (min (length more) (1024 - n)) more = copied ∙ ap (λ m. take m more) same in
-    let size : length part ≡ count = ap length is ∙ length-take-le (min (length more) (1024 - n)) more (omega arith) ∙ sym fits in
-    take-put_mid n k bytes part (n + count) (omega arith) (omega arith)
+    let front : length (take n bytes) ≡ n = length-take-le n bytes (omega arith) in
+    let room : length (take n bytes) + (1024 - n) ≡ 1024 = omega arith in
+    let same : count - 0 ≡ min (1024 - n) (length more) = omega arith in
+    let is : part ≡ take (1024 - n) more = copied ∙ ap (λ m. take m more) same ∙ take_min (1024 - n) more in
+    take-put_mid n k bytes part (n + count) (grind (arith, common_steps)) (omega arith)
     ∙ ap (λ ys. take n bytes ++ ys) is
-    ∙ kept_part (take n bytes) more n (length-take-le n bytes (omega arith)) h
+    ∙ sym (take-append-add (take n bytes) more (1024 - n))
+    ∙ ap (λ m. take m (take n bytes ++ more)) room
 
--- what a buffer holds fits a buffer
-pub held_fits : (b : Buffer) → length (held b) ≤ 1024
-held_fits b = rw length-take (omega (arith, b.ok))
+-- they are all that stand there
+pub front_extend : (bytes part : List ℕ) (n count k : ℕ) → length bytes ≡ 1024 → length part ≡ k → k ≡ count → n + count ≤ 1024 → length (take (n + count) (put_mid n k bytes part)) ≡ n + count
+front_extend bytes part n count k long copied is fits =
+    omega (arith, ap length (take-put_mid n k bytes part (n + count) (omega arith) (omega arith)), length-append (take n bytes) part, length-take-le n bytes (omega arith))
 
--- so all of it is kept
-pub kept-held : (b : Buffer) → kept (held b) ≡ held b
-kept-held b = kept_all (held b) (held_fits b)
+-- and zeros stand behind them still, up to the end
+pub padded_extend : (bytes part : List ℕ) (n count k : ℕ) → length bytes ≡ 1024 → length part ≡ k → k ≡ count → n + count ≤ 1024 → length (take n bytes) ≡ n → padded (take n bytes) ≡ bytes → padded (take (n + count) (put_mid n k bytes part)) ≡ put_mid n k bytes part
+padded_extend bytes part n count k long copied is fits held zeros =
+    let new : List ℕ = put_mid n k bytes part in
+    let size : length (take (n + count) new) ≡ n + count = front_extend bytes part n count k long copied is fits in
+    let before : drop n bytes ≡ replicate (1024 - n) 0 = ap (drop n) (sym zeros) ∙ drop_at (take n bytes) _ n held ∙ ap (λ m. replicate (1024 - m) 0) held in
+    let past : drop (n + count) new ≡ replicate (1024 - (n + count)) 0 =
+    drop-put_mid n k bytes part (n + count) (omega arith) (omega arith) copied
+    ∙ sym (drop-drop count n bytes)
+    ∙ ap (drop count) before
+    ∙ drop-replicate count (1024 - n) 0
+    ∙ ap (λ m. replicate m 0) (omega arith) in
+    ap (λ m. take (n + count) new ++ replicate (1024 - m) 0) size
+    ∙ ap (λ rest. take (n + count) new ++ rest) (sym past)
+    ∙ take-append-drop (n + count) new
+
+-- what `grind` needs for bytes appended one part after another
+pub ruleset appends = (kept-kept, append_assoc)

@@ -1,1 +1,1 @@
-pub mod Held
+pub mod Kept

@@ -14,12 +14,13 @@ pub fn copy(trace: &[u8], writer: &mut Writer<'_>) -> Result<(), Refused>
 {
     let mut reader = Reader::new(trace);
     let mut place = SetupPlace::empty();
-    let mut at = 0;
-    while let Some(record) = reader.next(&mut place)? {
-        if let Err(refusal) = writer.write(&record, &place) {
-            return Err(Refused { refusal, place: at });
-        }
-        at = reader.place();
+    loop {
+        let at = reader.place();
+        let Some(record) = reader.next(&mut place)? else {
+            return Ok(());
+        };
+        writer
+            .write(&record, &place)
+            .map_err(|refusal| Refused { refusal, place: at })?;
     }
-    Ok(())
 }

@@ -1,11 +1,10 @@
 -- bad lines that are read one by one into a place
-use Rattle.std.proofs.Common.{◌≡◌, ℕ, suc, ◌+◌, ◌-◌, ◌<◌, ◌≤◌, List, [], ◌∷◌, ◌++◌, length, take, drop, set, sym, refl, ap, ◌∙◌, append_assoc, arith}
-use Rattle.std.proofs.lemmas.List.{append-nil, take-append-drop, take_more_set, length-take-le}
+use Rattle.std.proofs.Common.{◌≡◌, ℕ, suc, ◌+◌, ◌-◌, ◌<◌, List, [], ◌∷◌, ◌++◌, length, take, set, sym, refl, ap, ◌∙◌, append_assoc, arith}
+use Rattle.std.proofs.lemmas.List.{take_more_set}
 use Rattle.records.specs.declared.BadLine.{BadLine}
 use Rattle.records.specs.declared.Refusal.{Refusal}
 use Rattle.records.specs.Parsed.{Parsed, Took, Refuses, and_then}
 use Rattle.records.specs.Decode.{bad_line, bad_lines}
-use Rattle.decoding.specs.Places.{onto}
 
 shift : {X : Type 0} (p : Parsed (List X)) (front : List X) (x : X) → and_then p (λ more r. Took ((front ++ (x ∷ [])) ++ more) r) ≡ and_then (and_then p (λ more r. Took (x ∷ more) r)) (λ more r. Took (front ++ more) r)
 shift (Took more r) front x = ap (λ l. Took l r) (append_assoc front (x ∷ []) more)
@@ -27,12 +26,3 @@ module _ (n i : ℕ) (bs : List ℕ) (filled : List BadLine) (l : i < n) where
       ap (Left (n - (i + 1)) rest) (take_more_set filled i b h)
       ∙ shift (bad_lines (n - (i + 1)) rest) (take i filled) b
       ∙ sym (ap (λ k. Left k bs (take i filled)) next ∙ ap (λ p. and_then (and_then p (λ b rest. and_then (bad_lines (n - (i + 1)) rest) (λ more rest. Took (b ∷ more) rest))) (λ more rest. Took (take i filled ++ more) rest)) e)
-
--- all of them stand in the place
-pub left_none : (n i : ℕ) (bs : List ℕ) (filled place : List BadLine) → n ≤ i → i ≤ n → n ≤ length filled → drop i filled ≡ drop i place → (p : Parsed (List BadLine)) → Left (n - i) bs (take i filled) ≡ p → Took filled bs ≡ and_then p (λ bad rest. Took (onto bad place) rest)
-left_none n i bs filled place u l h d p e =
-    let none : n - i ≡ 0 = omega arith in
-    let len : length (take i filled) ≡ i = length-take-le i filled (omega arith) in
-    let q : Took (take i filled) bs ≡ p = ap (λ xs. Took xs bs) (sym (append-nil (take i filled))) ∙ sym (ap (λ k. Left k bs (take i filled)) none) ∙ e in
-    ap (λ xs. Took xs bs) (sym (take-append-drop i filled) ∙ ap (λ xs. take i filled ++ xs) d ∙ ap (λ k. take i filled ++ drop k place) (sym len))
-    ∙ ap (λ p. and_then p (λ bad rest. Took (onto bad place) rest)) q

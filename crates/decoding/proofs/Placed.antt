@@ -54,8 +54,8 @@ bad_lines_length (suc k) bs xs r e =
 
 module _ (p : SetupPlace) where
   -- a setup with its place, as the record that it is
-  abbrev pub seen : Setup × SetupPlace → List ℕ → Parsed (Item × SetupPlace)
-  seen s r = Took (item_of (SetupRecord s.0) s.1, s.1) r
+  abbrev pub with_place : Setup × SetupPlace → List ℕ → Parsed (Item × SetupPlace)
+  with_place s r = Took (item_of (SetupRecord s.0) s.1, s.1) r
 
   abbrev placed : Item → List ℕ → Parsed (Item × SetupPlace)
   placed item r = Took (item, filled p item) r
@@ -66,11 +66,11 @@ module _ (p : SetupPlace) where
   same_setup : (n : ℕ) (b : Bottom) (k : ℕ) (l : Level × Option Level) (q : SetupPlace) (r : List ℕ) {xs xs' : List ℕ} {bad bad' : List BadLine} → xs ≡ xs' → bad ≡ bad' → made_of n b k l q r xs bad ≡ made_of n b k l q r xs' bad'
   same_setup n b k l q r {xs} {xs'} {bad} {bad'} e f = ap (λ zs. made_of n b k l q r zs bad) e ∙ ap (λ zs. made_of n b k l q r xs' zs) f
 
-  pub setup_placed : (bs : List ℕ) → and_then (setup_onto p bs) seen ≡ fields_onto p 0 bs
+  pub setup_placed : (bs : List ℕ) → and_then (setup_onto p bs) with_place ≡ fields_onto p 0 bs
   setup_placed bs =
-      both (number_within 1 4096 bs) _ _ seen placed (λ n r1 e1.
-      both_onto (bottom r1) (λ b. (b.0, onto b.1 p.script)) _ _ seen placed (λ b r2 e2.
-      both (number_within 0 32 r2) _ _ seen placed (λ k r3 e3.
-      both_onto (bad_lines k r3) (λ bad. onto bad p.bad) _ _ seen placed (λ bad r4 e4.
-      both (levels r4) _ _ seen placed (λ l r5 e5.
+      both (number_within 1 4096 bs) _ _ with_place placed (λ n r1 e1.
+      both_onto (bottom r1) (λ b. (b.0, onto b.1 p.script)) _ _ with_place placed (λ b r2 e2.
+      both (number_within 0 32 r2) _ _ with_place placed (λ k r3 e3.
+      both_onto (bad_lines k r3) (λ bad. onto bad p.bad) _ _ with_place placed (λ bad r4 e4.
+      both (levels r4) _ _ with_place placed (λ l r5 e5.
       same_setup n b.0 k l (record { script = onto b.1 p.script; bad = onto bad p.bad }) r5 (script_placed r1 b r2 p.script e2) (front k bad p.bad (bad_lines_length k r3 bad r4 e4)))))))

@@ -1,11 +1,9 @@
--- a record by its kind, and the bytes that it was read from
-use Rattle.std.proofs.Common.{◌≡◌, ℕ, ◌≤◌, Bool, true, false, not, eqb, List, ◌∷◌, ◌++◌, IfOk, Ok, Err, Result, sym, refl, Bor}
-use mathlib.Core.Bool.{beq}
-use Rattle.std.proofs.lemmas.Bool.{le-ltb, both_ways}
+-- a record, and the bytes that it was read from
+use Rattle.std.proofs.Common.{◌≡◌, ℕ, Bool, true, List, ◌++◌, IfOk, Ok, Err, Result, sym, Bor}
 use Rattle.records.specs.declared.Record.{Record}
 use Rattle.records.specs.declared.Refusal.{Refusal}
 use Rattle.records.specs.declared.SetupPlace.{SetupPlace}
-use Rattle.records.specs.Decode.{decode, fields}
+use Rattle.records.specs.Decode.{decode}
 use Rattle.records.specs.Encode.{encode, in_limits}
 use Rattle.records.specs.Items.{item_of}
 use Rattle.records.specs.Parsed.{Took, parsed_as}
@@ -19,13 +17,3 @@ taken_written first bs p h (Err e) d = tt
 taken_written first bs p h (Ok s) d =
     let c = came (decode first bs) (λ item rest. Took (item, filled p item) rest) (item_of s.0.0 s.0.1, s.0.1) s.1.now (sym d) in
     (let d = decode_back first bs h c.0 c.1 c.2 in took_as (λ z r. (bs ≡ encode z.0 ++ r) × (in_limits z.0 ≡ true)) c.3 (d.0, d.1))
-
--- a kind that stands where it may
-pub kind_checked : (first : Bool) (kind : ℕ) (bs : List ℕ) → kind ≤ 4 → not (beq first (eqb kind 0)) ≡ false → decode first (kind ∷ bs) ≡ fields kind bs
-kind_checked first kind bs h e = go first (eqb kind 0) refl e
-  where
-    go : (f b : Bool) → eqb kind 0 ≡ b → not (beq f b) ≡ false → decode f (kind ∷ bs) ≡ fields kind bs
-    go true true z e = rw (le-ltb 4 kind h, z)
-    go true false z e = absurd (both_ways true e refl)
-    go false true z e = absurd (both_ways true e refl)
-    go false false z e = rw (le-ltb 4 kind h, z)

@@ -1,4 +1,7 @@
-use Rattle.std.specs.Prelude.{◌≡◌, ℕ, ◌+◌, length}
+use Rattle.std.specs.Prelude.{◌≡◌, ℕ, ◌+◌, ◌-◌, List, length, IfOk, Result}
+use Rattle.std.specs.Borrow.{Bor}
+use Rattle.records.specs.declared.Refusal.{Refusal}
+use Rattle.records.specs.declared.SetupPlace.{SetupPlace}
 use Rattle.records.specs.declared.Record.{Record}
 use Rattle.records.specs.declared.Record.TheVariants.{Setup as SetupRecord, Load, Store, Pass, Note}
 
@@ -9,3 +12,7 @@ Noted (Load size address) to = Unit {0}
 Noted (Store size address value) to = Unit {0}
 Noted (Pass steps) to = Unit {0}
 Noted (Note text place) to = place + length text.now ≡ to
+
+-- the same of a record that was read off a trace of so many bytes
+abbrev pub NotedIn : ℕ → Result ((Record × SetupPlace) × Bor (List ℕ)) Refusal → Type 0
+NotedIn end r = IfOk r (λ s. Noted s.0.0 (end - length s.1.now))

@@ -1,12 +1,15 @@
-use Rattle.std.specs.Prelude.{ℕ, Bool, List, ◌++◌, length, drop}
+use Rattle.std.specs.Prelude.{ℕ, Bool, List, ◌++◌, length, drop, Result}
+use Rattle.std.specs.Borrow.{Bor}
 use Rattle.records.specs.declared.Bottom.{Bottom}
 use Rattle.records.specs.declared.BadLine.{BadLine}
+use Rattle.records.specs.declared.Record.{Record}
+use Rattle.records.specs.declared.Refusal.{Refusal}
 use Rattle.records.specs.declared.SetupPlace.{SetupPlace}
 use Rattle.records.specs.declared.Setup.{Setup}
 use Rattle.records.specs.Decode.{script, bottom, bad_lines, levels, fields, decode}
 use Rattle.records.specs.Numbers.{number_within}
-use Rattle.records.specs.Items.{Item, setup, load, store, pass, note}
-use Rattle.records.specs.Parsed.{Parsed, Took, and_then}
+use Rattle.records.specs.Items.{Item, setup, load, store, pass, note, item_of}
+use Rattle.records.specs.Parsed.{Parsed, Took, and_then, parsed_as}
 
 -- a place whose first elements are replaced, and whose others stay
 abbrev pub onto : {X : Type 0} → List X → List X → List X
@@ -41,6 +44,10 @@ filled p (load size address) = p
 filled p (store size address value) = p
 filled p (pass steps) = p
 filled p (note bytes) = p
+
+-- what a function answers that reads a record: the record with all that it says, and the place after it
+abbrev pub seen : Result ((Record × SetupPlace) × Bor (List ℕ)) Refusal → Parsed (Item × SetupPlace)
+seen r = parsed_as (λ s. (item_of s.0 s.1, s.1)) r
 
 -- the fields after a kind byte, and the place after them
 abbrev pub fields_onto : SetupPlace → ℕ → List ℕ → Parsed (Item × SetupPlace)

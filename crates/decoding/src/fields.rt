@@ -1,35 +1,45 @@
 ghost use Rattle.std.specs.Prelude.{◌≡◌, ◌+◌, ◌<◌, ◌≤◌, length, IfOk};
 ghost use Rattle.records.specs.Numbers.{number_within};
-ghost use Rattle.records.specs.Decode.{plain, side, level, levels, text, bad_line};
+ghost use Rattle.records.specs.Decode.{plain, side, rule, level, levels, text, bad_line};
 ghost use Rattle.decoding.specs.Places.{script_onto, bottom_onto, bad_lines_onto};
 ghost use Rattle.records.specs.Parsed.{parsed, parsed_as};
 
-use records::bytes::all_within;
+use counts::is_count;
+use records::bytes::{all_within, all_zero};
 use records::number::read_number;
 use records::{BadLine, Bottom, Level, Refusal, Rule};
 
-// A number between two limits.
+// A number between two limits. Where they are a type's own or less, callers narrow it by `as`, which is proved to lose
+// nothing; `TryFrom` would add a refusal that cannot come.
+// The limits are two numbers and no `RangeInclusive`, which may be used up and is one case more in each contract.
 pub(crate) fn read_within(bytes: &[u8], low: u64, high: u64) -> Result<(u64, &[u8]), Refusal>
     ensures value { parsed result ≡ number_within low high bytes.now }
     ensures limits { IfOk result (λ p. (low ≤ p.0) × (p.0 ≤ high) × (length p.1.now < length bytes.now)) }
 {
     let (value, rest) = read_number(bytes)?;
-    if value < low || value > high {
+    if !(low..=high).contains(&value) {
         return Err(Refusal::Limit);
     }
     Ok((value, rest))
 }
 
-// A number of sets or of ways.
+// A number of sets or of ways, narrowed as above.
 fn read_side(bytes: &[u8]) -> Result<(u8, &[u8]), Refusal>
     ensures { parsed result ≡ side bytes.now }
 {
     let (value, rest) = read_number(bytes)?;
-    if value == 1 || value == 2 || value == 4 || value == 8 {
-        Ok((value as u8, rest))
-    } else {
-        Err(Refusal::Limit)
+    if !is_count(value) {
+        return Err(Refusal::Limit);
     }
+    Ok((value as u8, rest))
+}
+
+// A replacement rule, by its number.
+fn read_rule(bytes: &[u8]) -> Result<(Rule, &[u8]), Refusal>
+    ensures { parsed result ≡ rule bytes.now }
+{
+    let (number, rest) = read_number(bytes)?;
+    Ok((Rule::try_from(number)?, rest))
 }
 
 fn read_level(bytes: &[u8]) -> Result<(Level, &[u8]), Refusal>
@@ -37,8 +47,7 @@ fn read_level(bytes: &[u8]) -> Result<(Level, &[u8]), Refusal>
 {
     let (sets, rest) = read_side(bytes)?;
     let (ways, rest) = read_side(rest)?;
-    let (number, rest) = read_within(rest, 1, 2)?;
-    let rule = if number == 1 { Rule::Lru } else { Rule::Fifo };
+    let (rule, rest) = read_rule(rest)?;
     Ok((Level { sets, ways, rule }, rest))
 }
 
@@ -46,6 +55,7 @@ fn read_level(bytes: &[u8]) -> Result<(Level, &[u8]), Refusal>
 pub(crate) fn read_levels(bytes: &[u8]) -> Result<((Level, Option<Level>), &[u8]), Refusal>
     ensures { parsed result ≡ levels bytes.now }
 {
+    // how many levels there are: a count and no kind
     let (count, rest) = read_within(bytes, 1, 2)?;
     let (lowest, rest) = read_level(rest)?;
     if count == 1 {
@@ -55,15 +65,12 @@ pub(crate) fn read_levels(bytes: &[u8]) -> Result<((Level, Option<Level>), &[u8]
     Ok(((lowest, Some(upper)), rest))
 }
 
-// So many bytes as they stand.
+// So many bytes as they stand. How many is a field that was read before them, so it is an argument of its own here and below.
 fn read_plain(bytes: &[u8], count: usize) -> Result<(&[u8], &[u8]), Refusal>
     ensures value { parsed_as (λ x. x.now) result ≡ plain count bytes.now }
     ensures len { IfOk result (λ p. (length p.0.now ≡ count) × (length p.0.now + length p.1.now ≡ length bytes.now)) }
 {
-    if count > bytes.len() {
-        return Err(Refusal::Truncated);
-    }
-    Ok((&bytes[0..count], &bytes[count..]))
+    bytes.split_at_checked(count).ok_or(Refusal::Truncated)
 }
 
 // A note's text.
@@ -84,11 +91,11 @@ fn read_script(bytes: &[u8], count: usize, place: [u8; 64]) -> Result<([u8; 64],
     ensures { parsed result ≡ script_onto count place bytes.now }
 {
     let (read, rest) = read_plain(bytes, count)?;
-    if all_within(read, 0, 0) {
+    if all_zero(read) {
         return Err(Refusal::Limit);
     }
     let mut filled = place;
-    filled[0..count].copy_from_slice(read);
+    filled[..count].copy_from_slice(read);
     Ok((filled, rest))
 }
 
@@ -101,6 +108,7 @@ pub(crate) fn read_bottom(
 {
     let (kind, rest) = read_within(bytes, 1, 2)?;
     let (value, rest) = read_within(rest, 1, 64)?;
+    // 1 or 2, read and taken apart here alone: an enum for it would be no plainer
     if kind == 1 {
         let latency = value as u8;
         return Ok(((Bottom::Ordered { latency }, place), rest));
@@ -131,9 +139,9 @@ pub(crate) fn read_bad_lines(
 {
     let mut filled = place;
     let mut left = bytes;
-    for i in 0..count {
+    for slot in &mut filled[..count] {
         let (bad, rest) = read_bad_line(left)?;
-        filled[i] = bad;
+        *slot = bad;
         left = rest;
     }
     Ok((filled, left))

@@ -1,6 +1,6 @@
 -- a number's bytes, one group after another
 use Rattle.std.proofs.Common.{◌≡◌, ℕ, zero, suc, ◌+◌, ◌/◌, ◌%◌, ◌^◌, ◌<◌, ◌≤◌, cond, ltb, List, [], ◌∷◌, ◌++◌, sym, refl, ap, ◌∙◌, arith}
-use Rattle.buffer.specs.Held.{kept}
+use Rattle.buffer.specs.Kept.{kept}
 use Rattle.records.specs.Numbers.{groups, spelled}
 use Rattle.records.proofs.Spelled.{reach, groups_one, groups_more}
 use Rattle.buffer.proofs.Kept.{appended}
@@ -19,7 +19,3 @@ group_pushed h n large fits pushed is =
     appended h ((n % 128 + 128) ∷ []) (spelled (n / 128)) pushed refl
     ∙ ap (λ l. kept (h ++ l)) (sym (spelled_large n large fits))
     ∙ is
-
--- the last group was pushed
-pub last_pushed : (h : List ℕ) {g all : List ℕ} (n : ℕ) → n < 128 → g ≡ kept (h ++ n ∷ []) → kept (h ++ spelled n) ≡ all → g ≡ all
-last_pushed h n small pushed is = pushed ∙ ap (λ l. kept (h ++ l)) (sym (groups_one 9 n small)) ∙ is

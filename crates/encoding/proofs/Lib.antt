@@ -1,3 +1,3 @@
 pub mod Groups
-pub mod Fronts
+pub mod Appends
 pub mod Sizes

@@ -5,6 +5,5 @@ ghost use Rattle.std.specs.Prelude.{◌≡◌, take};
 pub fn front<T>(items: &[T], n: usize) -> &[T]
     ensures { result.now ≡ take n items.now }
 {
-    let n = n.min(items.len());
-    &items[0..n]
+    items.get(..n).unwrap_or(items)
 }

@@ -1,11 +1,12 @@
 -- lines are short
 use Rattle.std.proofs.Common.{◌≡◌, ℕ, ◌^◌, ◌<◌, ◌≤◌, true, leb, List, length, Ok, Err, decimal, sym, ap, ◌∙◌, subst, arith}
 use Rattle.buffer.proofs.Kept.{kept_all}
-use Rattle.buffer.specs.Held.{kept}
+use Rattle.buffer.specs.Kept.{kept}
 use Rattle.listing.specs.Shown.{ended_line, note_fields, refused_fields, end_fields}
 use Rattle.records.specs.declared.Refusal.{Refusal}
 use Rattle.records.specs.declared.Refusal.TheVariants.{Truncated, Number, Kind, Limit, Misplaced, Room}
-use Rattle.records.specs.Decode.{each, printable}
+use Rattle.std.specs.List.{list_all}
+use Rattle.records.specs.Decode.{printable}
 use Rattle.records.specs.Encode.{in_limits}
 use Rattle.records.specs.Items.{Item, setup, load, store, pass, note}
 use Rattle.records.specs.Numbers.{within}
@@ -65,7 +66,7 @@ item_short lines index (load size address) h l = request_short index (requests.l
 item_short lines index (store size address value) h l = request_short index (requests.store_answer lines size address value) h
 item_short lines index (pass steps) h l = omega arith
 item_short lines index (note text) h l =
-    let p = and_parts (within 0 60 (length text)) (each printable text) l in
+    let p = and_parts (within 0 60 (length text)) (list_all printable text) l in
     note_short text (leb-true (length text) 60 (and_parts (leb 0 (length text)) (leb (length text) 60) p.0).1)
 
 -- a short line is kept whole

@@ -26,10 +26,10 @@ impl Count {
         }
     }
 
-    // The line that a record shows, which then counts. A setup's script and bad lines lie in that place.
-    pub(crate) fn take<'a>(&mut self, next: Record<'a>, place: &SetupPlace) -> Option<Line<'a>>
-        ensures line { line_bytes result ≡ item_line self.old.lines self.old.«record» (item_of next.entry place.now) }
-        ensures after { self.new ≡ item_goes self.old (item_of next.entry place.now) }
+    // The line that a record shows, which then counts. It is the same wherever a setup's script and bad lines lie.
+    pub(crate) fn take<'a>(&mut self, next: Record<'a>) -> Option<Line<'a>>
+        ensures line { (p : SetupPlace) → line_bytes result ≡ item_line self.old.lines self.old.«record» (item_of next.entry p) }
+        ensures after { (p : SetupPlace) → self.new ≡ item_goes self.old (item_of next.entry p) }
     {
         let index = self.record;
         self.record = index.saturating_add(1);
@@ -51,12 +51,12 @@ impl Count {
                 self.steps = self.steps.saturating_add(u64::from(steps));
                 None
             }
-            Record::Note { text, .. } => return Some(Line::Note { text }),
+            Record::Note { text, .. } => Some(Line::Note { text }),
         }
     }
 }
 
-// The line of a record that is refused.
+// The line of a record that is refused. By the number, since the reader and the check of requests have refusals of their own.
 pub(crate) fn refused_line<'a>(index: u64, code: u8) -> Line<'a>
     ensures { shown result ≡ ended_line (refused_fields index code) }
 {
@@ -77,8 +77,6 @@ pub(crate) fn end_line<'a>(steps: u64) -> Line<'a>
 fn answered<'a>(index: u64, answer: Result<(), request::Refusal>) -> Option<Line<'a>>
     ensures { line_bytes result ≡ request_line index answer }
 {
-    match answer {
-        Ok(()) => None,
-        Err(refusal) => Some(refused_line(index, refusal.code())),
-    }
+    let refusal = answer.err()?;
+    Some(refused_line(index, u8::from(refusal)))
 }

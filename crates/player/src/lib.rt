@@ -1,7 +1,7 @@
 //! Plays a trace: its listing, with no memory yet under its requests.
 #![tactic(auto)]
 
-ghost use Rattle.buffer.specs.Held.{kept};
+ghost use Rattle.buffer.specs.Kept.{kept};
 ghost use Rattle.listing.specs.Shown.{shown};
 ghost use Rattle.player.specs.Counts.{item_line, item_goes};
 ghost use Rattle.player.specs.Listing.{Listing, Played};
@@ -26,21 +26,16 @@ fn push_line(bytes: &mut Vec<u8>, line: &Line<'_>) -> Result<(), AllocError>
 }
 
 // Appends what a record shows, and counts it.
-fn push_record(
-    bytes: &mut Vec<u8>,
-    count: &mut Count,
-    next: Record<'_>,
-    place: &SetupPlace,
-) -> Result<(), AllocError>
-    ensures items { bytes.new.items ≡ (if is_ok result then bytes.old.items ++ kept (item_line count.old.lines count.old.«record» (item_of next.entry place.now)) else bytes.old.items) }
-    ensures after { count.new ≡ item_goes count.old (item_of next.entry place.now) }
+fn push_record(bytes: &mut Vec<u8>, count: &mut Count, next: Record<'_>) -> Result<(), AllocError>
+    ensures items { (p : SetupPlace) → bytes.new.items ≡ (if is_ok result then bytes.old.items ++ kept (item_line count.old.lines count.old.«record» (item_of next.entry p)) else bytes.old.items) }
+    ensures after { (p : SetupPlace) → count.new ≡ item_goes count.old (item_of next.entry p) }
     ensures capacity { vec_capacity bytes.old ≤ vec_capacity bytes.new }
-    ensures full { OnErr result (vec_capacity bytes.old < vec_len bytes.old + length (kept (item_line count.old.lines count.old.«record» (item_of next.entry place.now)))) }
+    ensures full { (p : SetupPlace) → OnErr result (vec_capacity bytes.old < vec_len bytes.old + length (kept (item_line count.old.lines count.old.«record» (item_of next.entry p)))) }
 {
-    let Some(line) = count.take(next, place) else {
-        return Ok(());
-    };
-    push_line(bytes, &line)
+    match count.take(next) {
+        Some(line) => push_line(bytes, &line),
+        None => Ok(()),
+    }
 }
 
 // What the records of a trace show, the counts after them, and the refusal that cut the trace short.
@@ -59,7 +54,7 @@ fn play_records(
     let mut setup = SetupPlace::empty();
     loop {
         match reader.next(&mut setup) {
-            Ok(Some(next)) => push_record(&mut bytes, &mut count, next, &setup)?,
+            Ok(Some(next)) => push_record(&mut bytes, &mut count, next)?,
             Ok(None) => return Ok((bytes, count, None)),
             Err(refused) => return Ok((bytes, count, Some(refused.refusal))),
         }
@@ -74,7 +69,7 @@ pub fn play(trace: &[u8], place: Vec<u8>) -> Result<Vec<u8>, AllocError>
 {
     let (mut bytes, count, refusal) = play_records(trace, place)?;
     if let Some(refusal) = refusal {
-        push_line(&mut bytes, &refused_line(count.record, refusal.code()))?;
+        push_line(&mut bytes, &refused_line(count.record, u8::from(refusal)))?;
     }
     push_line(&mut bytes, &end_line(count.steps))?;
     Ok(bytes)

@@ -1,7 +1,6 @@
 -- reading on from a place, by what the record there comes to
-use Rattle.std.proofs.Common.{◌≡◌, ℕ, ◌+◌, ◌-◌, ◌≤◌, true, false, not, eqb, List, ◌++◌, length, take, drop, sym, refl, ap, ◌∙◌, subst, arith}
+use Rattle.std.proofs.Common.{◌≡◌, ℕ, ◌+◌, ◌-◌, ◌≤◌, true, false, eqb, List, ◌++◌, length, take, drop, sym, refl, ap, ◌∙◌, subst, arith}
 use Rattle.std.proofs.lemmas.List.{length-append, length-drop, take_at, take-append-drop, length-take-le, append_assoc}
-use Rattle.std.proofs.lemmas.Bool.{and_parts, eqb-true}
 use Rattle.records.specs.declared.Refusal.{Refusal}
 use Rattle.records.specs.declared.SetupPlace.{SetupPlace}
 use Rattle.records.specs.Decode.{decode}
@@ -11,16 +10,13 @@ use Rattle.records.specs.Parsed.{Parsed, Took, Refuses, and_then}
 use Rattle.records.proofs.Laws.{came}
 use Rattle.records.proofs.Spelled.{took_as, never}
 use Rattle.decoding.specs.Places.{filled, record_onto}
-use Rattle.reader.specs.Reading.{ended, gave, refused, at_place, ends, reading, Written}
+use Rattle.reader.specs.Reading.{gave, refused, at_place, ends, reading, Written}
 
 refused_there : {Y : Type 0} (p : Parsed Item) (f : Item → Y) (r : Refusal) → Refuses r ≡ and_then p (λ item rest. Took (f item) rest) → p ≡ Refuses r
 refused_there (Took x rest) f r e = absurd (never e)
 refused_there (Refuses s) f r e = let same : r ≡ s = cc in ap (λ z. Refuses z) (sym same)
 
 module _ (trace : List ℕ) (at : ℕ) where
-  pub read_ended : ends trace at ≡ true → reading trace at ≡ ended
-  read_ended e = rw e
-
   going : ends trace at ≡ false → reading trace at ≡ at_place trace at (decode (eqb at 0) (drop at trace))
   going e = rw e
 
@@ -51,11 +47,6 @@ module _ (trace : List ℕ) (at : ℕ) (in_trace : at ≤ length trace) where
       let s = read_length item rest d in
       let to : length trace - length rest ≡ at + length (encode item) = omega arith in
       subst (λ o. Written trace at o) (sym e) (omega arith, ap (λ n. take n trace) to ∙ take_on at trace (encode item) rest in_trace d, ok)
-
-  pub ended_written : ends trace at ≡ true → Written trace at (reading trace at)
-  ended_written e =
-      let there : at ≡ length trace = eqb-true at (length trace) (and_parts (not (eqb at 0)) (eqb at (length trace)) e).1 in
-      subst (λ o. Written trace at o) (sym (read_ended trace at e)) there
 
 pub refused_written : (trace : List ℕ) (at : ℕ) (r : Refusal) → reading trace at ≡ refused r at → Written trace at (reading trace at)
 refused_written trace at r e = subst (λ o. Written trace at o) (sym e) refl

@@ -1,4 +1,4 @@
-use Rattle.std.specs.Prelude.{◌≡◌, ℕ, ◌-◌, ◌≤◌, Bool, true, cond, not, ◌&&◌, List, ◌++◌, length, take, drop, Some, None, Ok, Err, Option, Result, ◌==◌}
+use Rattle.std.specs.Prelude.{◌≡◌, ℕ, ◌-◌, ◌≤◌, Bool, true, if◌then◌else◌, not, ◌&&◌, List, ◌++◌, length, take, drop, Some, None, Ok, Err, Option, Result, ◌==◌}
 use Rattle.records.specs.declared.Record.{Record}
 use Rattle.records.specs.declared.Refusal.{Refusal}
 use Rattle.records.specs.declared.SetupPlace.{SetupPlace}
@@ -27,7 +27,7 @@ ends trace at = not (at == 0) && at == length trace
 
 -- reading on from a place
 abbrev pub reading : List ℕ → ℕ → Outcome
-reading trace at = cond (ends trace at) ended (at_place trace at (decode (at == 0) (drop at trace)))
+reading trace at = if ends trace at then ended else at_place trace at (decode (at == 0) (drop at trace))
 
 -- what a reader's answer says, with the caller's place and the reader's place after it
 abbrev pub outcome : Result (Option Record) Refused → SetupPlace → ℕ → Outcome

@@ -2,7 +2,8 @@
 use Rattle.std.proofs.Common.{◌≡◌, ℕ, zero, suc, ◌-◌, ◌^◌, ◌<◌, ◌≤◌, Bool, true, false, cond, not, ◌&&◌, ◌||◌, eqb, ltb, leb, List, [], ◌∷◌, ◌++◌, length, take, drop, Some, None, Option, sym, refl, ap, ◌∙◌, subst, inl, inr, append_assoc, arith}
 use Rattle.std.proofs.lemmas.List.{take-append-drop, take_at, drop_at, length-append, length-take-le, nil_from_length}
 use Rattle.std.proofs.lemmas.Bool.{ltb-false, leb-true, le-leb, eqb-true, eqb-false, eq-eqb, cases_lt, and_parts, and_from, not-true, not_from_false, or_cases}
-use Rattle.std.specs.List.{flat_map}
+use Rattle.std.specs.List.{flat_map, list_all}
+use Rattle.counts.specs.Counts.{is_count}
 use Rattle.records.specs.declared.Refusal.{Refusal}
 use Rattle.records.specs.declared.Refusal.TheVariants.{Truncated, Limit, Kind, Misplaced}
 use Rattle.records.specs.declared.Rule.{Rule}
@@ -13,10 +14,11 @@ use Rattle.records.specs.declared.Bottom.TheVariants.{Ordered, Scripted}
 use Rattle.records.specs.declared.BadLine.{BadLine}
 use Rattle.records.specs.declared.Setup.{Setup}
 use Rattle.records.specs.Parsed.{Parsed, Took, Refuses, and_then}
+use Rattle.records.specs.Numbered.{rule_number}
 use Rattle.records.specs.Numbers.{number, spelled, within, number_within}
 use Rattle.records.specs.Items.{Item, setup, load, store, pass, note}
-use Rattle.records.specs.Decode.{plain, each, zero_byte, script, bottom, bad_line, bad_lines, is_side, side, rule_of, level, upper, levels, setup_of, setup_fields, load_fields, store_fields, pass_fields, printable, text, note_fields, fields, decode}
-use Rattle.records.specs.Encode.{bottom_bytes, bad_line_bytes, rule_number, level_bytes, levels_bytes, encode, bottom_in_limits, bad_line_in_limits, bad_lines_in_limits, level_in_limits, upper_in_limits, in_limits, is_setup}
+use Rattle.records.specs.Decode.{plain, zero_byte, script, bottom, bad_line, bad_lines, side, rule_of, rule, level, upper, levels, setup_of, setup_fields, load_fields, store_fields, pass_fields, printable, text, note_fields, fields, decode}
+use Rattle.records.specs.Encode.{bottom_bytes, bad_line_bytes, level_bytes, levels_bytes, encode, bottom_in_limits, bad_line_in_limits, bad_lines_in_limits, level_in_limits, upper_in_limits, in_limits, is_setup}
 use Rattle.records.proofs.Spelled.{Bytes, bytes_after, took_as, never, number_spelled, number_back}
 
 -- what was read is written as the same bytes, and lies within its limits
@@ -69,10 +71,10 @@ within_forth low high f n rest h =
     let l : n ≤ high = leb-true n high (and_parts (leb low n) (leb n high) h).1 in
     ap (λ p. and_then p (λ n rest. cond (within low high n) (Took n rest) (Refuses Limit))) (number_spelled n rest (omega arith)) ∙ rw h
 
-side_back : Back side spelled is_side
-side_back = tested number spelled (within 0 (2 ^ 64 - 1)) is_side Limit number_back
+side_back : Back side spelled is_count
+side_back = tested number spelled (within 0 (2 ^ 64 - 1)) is_count Limit number_back
 
-side_small : (n : ℕ) → is_side n ≡ true → n ≤ 8
+side_small : (n : ℕ) → is_count n ≡ true → n ≤ 8
 side_small n h =
     elim (or_cases (eqb n 1) (eqb n 2 || (eqb n 4 || eqb n 8)) h) [
       | inl a ↦ (let q : n ≡ 1 = eqb-true n 1 a in omega arith)
@@ -85,10 +87,10 @@ side_small n h =
       ]
     ]
 
-side_forth : Forth side spelled is_side
+side_forth : Forth side spelled is_count
 side_forth n rest h =
     let l : n ≤ 8 = side_small n h in
-    ap (λ p. and_then p (λ n rest. cond (is_side n) (Took n rest) (Refuses Limit))) (number_spelled n rest (omega arith)) ∙ rw h
+    ap (λ p. and_then p (λ n rest. cond (is_count n) (Took n rest) (Refuses Limit))) (number_spelled n rest (omega arith)) ∙ rw h
 
 -- bytes as they stand, so many of them
 plain_was : (n : ℕ) (bs xs rest : List ℕ) → plain n bs ≡ Took xs rest → (bs ≡ xs ++ rest) × (length xs ≡ n)
@@ -127,7 +129,7 @@ abbrev limited : (low high : ℕ) → high < 2 ^ 64 → Codec ℕ
 limited low high f = record { read = number_within low high; write = spelled; ok = within low high; back = within_back low high; forth = within_forth low high f }
 
 abbrev sides : Codec ℕ
-sides = record { read = side; write = spelled; ok = is_side; back = side_back; forth = side_forth }
+sides = record { read = side; write = spelled; ok = is_count; back = side_back; forth = side_forth }
 
 -- what came before the value at the end
 pub came : {X Y : Type 0} (p : Parsed X) (f : X → List ℕ → Parsed Y) (y : Y) (rest : List ℕ) → and_then p f ≡ Took y rest → (x : X) × (mid : List ℕ) × (p ≡ Took x mid) × (f x mid ≡ Took y rest)
@@ -139,15 +141,15 @@ failed : {X : Type 0} (b : Bool) (x y : X) (m r : List ℕ) (q : Refusal) → co
 failed true x y m r q e = absurd (never e)
 failed false x y m r q e = (refl, e)
 
-pub script_was : (n : ℕ) (bs xs rest : List ℕ) → script n bs ≡ Took xs rest → (bs ≡ xs ++ rest) × (length xs ≡ n) × (each zero_byte xs ≡ false)
+pub script_was : (n : ℕ) (bs xs rest : List ℕ) → script n bs ≡ Took xs rest → (bs ≡ xs ++ rest) × (length xs ≡ n) × (list_all zero_byte xs ≡ false)
 script_was n bs xs rest e =
-    let s = came (plain n bs) (λ bytes rest. cond (each zero_byte bytes) (Refuses Limit) (Took bytes rest)) xs rest e in
-    let t = failed (each zero_byte s.0) s.0 xs s.1 rest Limit s.3 in
+    let s = came (plain n bs) (λ bytes rest. cond (list_all zero_byte bytes) (Refuses Limit) (Took bytes rest)) xs rest e in
+    let t = failed (list_all zero_byte s.0) s.0 xs s.1 rest Limit s.3 in
     let p = plain_was n bs s.0 s.1 s.2 in
-    took_as (λ ys r. (bs ≡ ys ++ r) × (length ys ≡ n) × (each zero_byte ys ≡ false)) t.1 (p.0, p.1, t.0)
+    took_as (λ ys r. (bs ≡ ys ++ r) × (length ys ≡ n) × (list_all zero_byte ys ≡ false)) t.1 (p.0, p.1, t.0)
 
-script_forth : (xs rest : List ℕ) (n : ℕ) → length xs ≡ n → each zero_byte xs ≡ false → script n (xs ++ rest) ≡ Took xs rest
-script_forth xs rest n h z = ap (λ p. and_then p (λ bytes rest. cond (each zero_byte bytes) (Refuses Limit) (Took bytes rest))) (plain_forth xs rest n h) ∙ rw z
+script_forth : (xs rest : List ℕ) (n : ℕ) → length xs ≡ n → list_all zero_byte xs ≡ false → script n (xs ++ rest) ≡ Took xs rest
+script_forth xs rest n h z = ap (λ p. and_then p (λ bytes rest. cond (list_all zero_byte bytes) (Refuses Limit) (Took bytes rest))) (plain_forth xs rest n h) ∙ rw z
 
 -- a number that is 1 or 2
 one_or_two : (n : ℕ) → within 1 2 n ≡ true → eqb n 1 ≡ false → n ≡ 2
@@ -177,8 +179,8 @@ bottom_back bs h y rest e =
         let w = script_was n m2 c.0 c.1 c.2 in
         took_as (λ z r. (bs ≡ bottom_bytes z.0 z.1 ++ r) × (bottom_in_limits z.0 z.1 ≡ true)) c.3 (
           join (spelled 2) (spelled n ++ c.0) c.1 (i1 ∙ ap (λ k. spelled k ++ m1) two) (join (spelled n) c.0 c.1 i2 w.0),
-          and_from (within 1 64 n) (eqb (length c.0) n && not (each zero_byte c.0)) f2
-              (and_from (eqb (length c.0) n) (not (each zero_byte c.0)) (eq-eqb (length c.0) n w.1) (not_from_false (each zero_byte c.0) w.2)),
+          and_from (within 1 64 n) (eqb (length c.0) n && not (list_all zero_byte c.0)) f2
+              (and_from (eqb (length c.0) n) (not (list_all zero_byte c.0)) (eq-eqb (length c.0) n w.1) (not_from_false (list_all zero_byte c.0) w.2)),
         )
 
 bottom_forth : Forth bottom (λ b. bottom_bytes b.0 b.1) (λ b. bottom_in_limits b.0 b.1)
@@ -189,11 +191,11 @@ bottom_forth (Ordered n, xs) rest h =
     ∙ forth_last (limited 1 64 (omega arith)) n p.0 rest (bottom_after 1)
     ∙ ap (λ ys. Took (Ordered n, ys) rest) (sym none)
 bottom_forth (Scripted n, xs) rest h =
-    let p = and_parts (within 1 64 n) (eqb (length xs) n && not (each zero_byte xs)) h in
-    let q = and_parts (eqb (length xs) n) (not (each zero_byte xs)) p.1 in
+    let p = and_parts (within 1 64 n) (eqb (length xs) n && not (list_all zero_byte xs)) h in
+    let q = and_parts (eqb (length xs) n) (not (list_all zero_byte xs)) p.1 in
     forth_then (limited 1 2 (omega arith)) 2 refl (spelled n ++ xs) rest (λ kind rest. and_then (number_within 1 64 rest) (bottom_after kind))
     ∙ forth_then (limited 1 64 (omega arith)) n p.0 xs rest (bottom_after 2)
-    ∙ ap (λ r. and_then r (λ bytes rest. Took (Scripted n, bytes) rest)) (script_forth xs rest n (eqb-true (length xs) n q.0) (not-true (each zero_byte xs) q.1))
+    ∙ ap (λ r. and_then r (λ bytes rest. Took (Scripted n, bytes) rest)) (script_forth xs rest n (eqb-true (length xs) n q.0) (not-true (list_all zero_byte xs) q.1))
 
 abbrev bottoms : Codec (Bottom × List ℕ)
 bottoms = record { read = bottom; write = λ b. bottom_bytes b.0 b.1; ok = λ b. bottom_in_limits b.0 b.1; back = bottom_back; forth = bottom_forth }
@@ -258,27 +260,36 @@ rule_forth : (r : Rule) → rule_of (rule_number r) ≡ r
 rule_forth Lru = refl
 rule_forth Fifo = refl
 
-abbrev level_of : ℕ → ℕ → ℕ → Level
-level_of sets ways rule = record { sets = sets; ways = ways; rule = rule_of rule }
+rule_read_back : Back rule (λ r. spelled (rule_number r)) (λ _. true)
+rule_read_back bs h y rest e =
+    let s = first (within_back 1 2) bs h (λ n rest. Took (rule_of n) rest) y rest e in
+    took_as (λ r m. (bs ≡ spelled (rule_number r) ++ m) × (true ≡ true)) s.goes (s.is ∙ ap (λ n. spelled n ++ s.mid) (rule_back s.x s.fits), refl)
+
+rule_read_forth : Forth rule (λ r. spelled (rule_number r)) (λ _. true)
+rule_read_forth r rest h = forth_last (limited 1 2 (omega arith)) (rule_number r) (rule_within r) rest (λ n rest. Took (rule_of n) rest) ∙ ap (λ q. Took q rest) (rule_forth r)
+
+abbrev rules_by_number : Codec Rule
+rules_by_number = record { read = rule; write = λ r. spelled (rule_number r); ok = λ _. true; back = rule_read_back; forth = rule_read_forth }
+
+abbrev level_of : ℕ → ℕ → Rule → Level
+level_of sets ways r = record { sets = sets; ways = ways; rule = r }
 
 level_back : Back level level_bytes level_in_limits
 level_back bs h y rest e =
-    let s = first side_back bs h (λ sets rest. and_then (side rest) (λ ways rest. and_then (number_within 1 2 rest) (λ rule rest. Took (level_of sets ways rule) rest))) y rest e in
-    let w = first side_back s.mid s.bytes (λ ways rest. and_then (number_within 1 2 rest) (λ rule rest. Took (level_of s.x ways rule) rest)) y rest s.goes in
-    let r = first (within_back 1 2) w.mid w.bytes (λ rule rest. Took (level_of s.x w.x rule) rest) y rest w.goes in
-    let last : w.mid ≡ spelled (rule_number (rule_of r.x)) ++ r.mid = r.is ∙ ap (λ n. spelled n ++ r.mid) (rule_back r.x r.fits) in
+    let s = first side_back bs h (λ sets rest. and_then (side rest) (λ ways rest. and_then (rule rest) (λ r rest. Took (level_of sets ways r) rest))) y rest e in
+    let w = first side_back s.mid s.bytes (λ ways rest. and_then (rule rest) (λ r rest. Took (level_of s.x ways r) rest)) y rest s.goes in
+    let r = first rule_read_back w.mid w.bytes (λ r rest. Took (level_of s.x w.x r) rest) y rest w.goes in
     took_as (λ l rest. (bs ≡ level_bytes l ++ rest) × (level_in_limits l ≡ true)) r.goes (
-      join (spelled s.x) (spelled w.x ++ spelled (rule_number (rule_of r.x))) r.mid s.is (join (spelled w.x) (spelled (rule_number (rule_of r.x))) r.mid w.is last),
-      and_from (is_side s.x) (is_side w.x) s.fits w.fits,
+      join (spelled s.x) (spelled w.x ++ spelled (rule_number r.x)) r.mid s.is (join (spelled w.x) (spelled (rule_number r.x)) r.mid w.is r.is),
+      and_from (is_count s.x) (is_count w.x) s.fits w.fits,
     )
 
 level_forth : Forth level level_bytes level_in_limits
 level_forth l rest h =
-    let p = and_parts (is_side l.sets) (is_side l.ways) h in
-    forth_then sides l.sets p.0 (spelled l.ways ++ spelled (rule_number l.rule)) rest (λ sets rest. and_then (side rest) (λ ways rest. and_then (number_within 1 2 rest) (λ rule rest. Took (level_of sets ways rule) rest)))
-    ∙ forth_then sides l.ways p.1 (spelled (rule_number l.rule)) rest (λ ways rest. and_then (number_within 1 2 rest) (λ rule rest. Took (level_of l.sets ways rule) rest))
-    ∙ forth_last (limited 1 2 (omega arith)) (rule_number l.rule) (rule_within l.rule) rest (λ rule rest. Took (level_of l.sets l.ways rule) rest)
-    ∙ ap (λ r. Took (record { sets = l.sets; ways = l.ways; rule = r }) rest) (rule_forth l.rule)
+    let p = and_parts (is_count l.sets) (is_count l.ways) h in
+    forth_then sides l.sets p.0 (spelled l.ways ++ spelled (rule_number l.rule)) rest (λ sets rest. and_then (side rest) (λ ways rest. and_then (rule rest) (λ r rest. Took (level_of sets ways r) rest)))
+    ∙ forth_then sides l.ways p.1 (spelled (rule_number l.rule)) rest (λ ways rest. and_then (rule rest) (λ r rest. Took (level_of l.sets ways r) rest))
+    ∙ forth_last rules_by_number l.rule refl rest (λ r rest. Took (level_of l.sets l.ways r) rest)
 
 abbrev level_codec : Codec Level
 level_codec = record { read = level; write = level_bytes; ok = level_in_limits; back = level_back; forth = level_forth }
@@ -400,12 +411,12 @@ pass_back bs h item rest e =
     let s = first (within_back 1 1000) bs h (λ steps rest. Took (pass steps) rest) item rest e in
     took_as (λ i r. (3 ∷ bs ≡ encode i ++ r) × (in_limits i ≡ true) × (is_setup i ≡ false)) s.goes (ap (λ ys. 3 ∷ ys) s.is, s.fits, refl)
 
-text_was : (n : ℕ) (bs xs rest : List ℕ) → text n bs ≡ Took xs rest → (bs ≡ xs ++ rest) × (length xs ≡ n) × (each printable xs ≡ true)
+text_was : (n : ℕ) (bs xs rest : List ℕ) → text n bs ≡ Took xs rest → (bs ≡ xs ++ rest) × (length xs ≡ n) × (list_all printable xs ≡ true)
 text_was n bs xs rest e =
-    let s = came (plain n bs) (λ bytes rest. cond (each printable bytes) (Took bytes rest) (Refuses Limit)) xs rest e in
-    let t = passed (each printable s.0) s.0 xs s.1 rest Limit s.3 in
+    let s = came (plain n bs) (λ bytes rest. cond (list_all printable bytes) (Took bytes rest) (Refuses Limit)) xs rest e in
+    let t = passed (list_all printable s.0) s.0 xs s.1 rest Limit s.3 in
     let p = plain_was n bs s.0 s.1 s.2 in
-    took_as (λ ys r. (bs ≡ ys ++ r) × (length ys ≡ n) × (each printable ys ≡ true)) t.1 (p.0, p.1, t.0)
+    took_as (λ ys r. (bs ≡ ys ++ r) × (length ys ≡ n) × (list_all printable ys ≡ true)) t.1 (p.0, p.1, t.0)
 
 note_back : Fields 4 note_fields
 note_back bs h item rest e =
@@ -462,7 +473,7 @@ decode_forth (store size address value) rest h =
     ∙ forth_last numbers value q.1 rest (λ value rest. Took (store size address value) rest)
 decode_forth (pass steps) rest h = forth_last (limited 1 1000 (omega arith)) steps h rest (λ steps rest. Took (pass steps) rest)
 decode_forth (note bytes) rest h =
-    let p = and_parts (within 0 60 (length bytes)) (each printable bytes) h in
+    let p = and_parts (within 0 60 (length bytes)) (list_all printable bytes) h in
     forth_then (limited 0 60 (omega arith)) (length bytes) p.0 bytes rest (λ n rest. and_then (text n rest) (λ bytes rest. Took (note bytes) rest))
-    ∙ ap (λ r. and_then (and_then r (λ bytes rest. cond (each printable bytes) (Took bytes rest) (Refuses Limit))) (λ bytes rest. Took (note bytes) rest)) (plain_forth bytes rest (length bytes) refl)
+    ∙ ap (λ r. and_then (and_then r (λ bytes rest. cond (list_all printable bytes) (Took bytes rest) (Refuses Limit))) (λ bytes rest. Took (note bytes) rest)) (plain_forth bytes rest (length bytes) refl)
     ∙ ap (λ b. and_then (cond b (Took bytes rest) (Refuses Limit)) (λ bytes rest. Took (note bytes) rest)) p.1

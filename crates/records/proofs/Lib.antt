@@ -2,4 +2,3 @@ pub mod Numbers
 pub mod Spelled
 pub mod Laws
 pub mod Whole
-pub mod Each

@@ -1,4 +1,5 @@
-use Rattle.std.specs.Prelude.{ℕ, zero, suc, ◌-◌, ◌^◌, Bool, true, false, cond, ◌&&◌, ◌||◌, List, [], ◌∷◌, length, take, drop, Some, None, Option, ◌==◌, nat_le, nat_lt}
+use Rattle.std.specs.Prelude.{ℕ, zero, suc, ◌-◌, ◌^◌, Bool, true, false, if◌then◌else◌, List, [], ◌∷◌, length, take, drop, Some, None, Option, ◌==◌, nat_le, nat_lt}
+use Rattle.std.specs.List.{list_all}
 use Rattle.records.specs.declared.Refusal.TheVariants.{Truncated, Kind, Limit, Misplaced}
 use Rattle.records.specs.declared.Rule.{Rule}
 use Rattle.records.specs.declared.Rule.TheVariants.{Lru, Fifo}
@@ -6,34 +7,30 @@ use Rattle.records.specs.declared.Level.{Level}
 use Rattle.records.specs.declared.Bottom.{Bottom}
 use Rattle.records.specs.declared.Bottom.TheVariants.{Ordered, Scripted}
 use Rattle.records.specs.declared.BadLine.{BadLine}
+use Rattle.counts.specs.Counts.{is_count}
 use Rattle.records.specs.Items.{Item, setup, load, store, pass, note}
 use Rattle.records.specs.Numbers.{number, number_within, within}
 use Rattle.records.specs.Parsed.{Parsed, Took, Refuses, and_then}
 
 -- so many bytes as they stand
 abbrev pub plain : ℕ → List ℕ → Parsed (List ℕ)
-plain n bs = cond (nat_le n (length bs)) (Took (take n bs) (drop n bs)) (Refuses Truncated)
-
--- whether each byte passes a test
-abbrev pub each : (ℕ → Bool) → List ℕ → Bool
-each test [] = true
-each test (b ∷ bs) = test b && each test bs
+plain n bs = if nat_le n (length bs) then Took (take n bs) (drop n bs) else Refuses Truncated
 
 -- a byte that is 0
 abbrev pub zero_byte : ℕ → Bool
-zero_byte = within 0 0
+zero_byte b = b == 0
 
 -- so many bytes, not all of them 0
 abbrev pub script : ℕ → List ℕ → Parsed (List ℕ)
-script n bs = and_then (plain n bs) (λ bytes rest. cond (each zero_byte bytes) (Refuses Limit) (Took bytes rest))
+script n bs = and_then (plain n bs) (λ bytes rest. if list_all zero_byte bytes then Refuses Limit else Took bytes rest)
 
 -- the memory at the bottom, by 1 and a latency or by 2 and a script
 abbrev pub bottom : List ℕ → Parsed (Bottom × List ℕ)
 bottom bs =
     and_then (number_within 1 2 bs) (λ kind rest.
     and_then (number_within 1 64 rest) (λ n rest.
-    cond (kind == 1) (Took (Ordered n, []) rest)
-    (and_then (script n rest) (λ bytes rest. Took (Scripted n, bytes) rest))))
+    if kind == 1 then Took (Ordered n, []) rest
+    else and_then (script n rest) (λ bytes rest. Took (Scripted n, bytes) rest)))
 
 -- a bad line with its cause
 abbrev pub bad_line : List ℕ → Parsed BadLine
@@ -46,28 +43,28 @@ abbrev pub bad_lines : ℕ → List ℕ → Parsed (List BadLine)
 bad_lines zero bs = Took [] bs
 bad_lines (suc k) bs = and_then (bad_line bs) (λ b rest. and_then (bad_lines k rest) (λ more rest. Took (b ∷ more) rest))
 
--- a number of sets or of ways: 1, 2, 4 or 8
-abbrev pub is_side : ℕ → Bool
-is_side n = n == 1 || (n == 2 || (n == 4 || n == 8))
-
--- such a number, read
+-- a number of sets or of ways
 abbrev pub side : List ℕ → Parsed ℕ
-side bs = and_then (number bs) (λ n rest. cond (is_side n) (Took n rest) (Refuses Limit))
+side bs = and_then (number bs) (λ n rest. if is_count n then Took n rest else Refuses Limit)
 
 -- a replacement rule by its number
 abbrev pub rule_of : ℕ → Rule
-rule_of n = cond (n == 1) Lru Fifo
+rule_of n = if n == 1 then Lru else Fifo
+
+-- a replacement rule, read
+abbrev pub rule : List ℕ → Parsed Rule
+rule bs = and_then (number_within 1 2 bs) (λ n rest. Took (rule_of n) rest)
 
 -- a cache level: its sets, its ways and its rule
 abbrev pub level : List ℕ → Parsed Level
 level bs =
     and_then (side bs) (λ sets rest.
     and_then (side rest) (λ ways rest.
-    and_then (number_within 1 2 rest) (λ rule rest. Took (record { sets = sets; ways = ways; rule = rule_of rule }) rest)))
+    and_then (rule rest) (λ r rest. Took (record { sets = sets; ways = ways; rule = r }) rest)))
 
 -- the second level of so many
 abbrev pub upper : ℕ → List ℕ → Parsed (Option Level)
-upper count bs = cond (count == 1) (Took None bs) (and_then (level bs) (λ l rest. Took (Some l) rest))
+upper count bs = if count == 1 then Took None bs else and_then (level bs) (λ l rest. Took (Some l) rest)
 
 -- one or two levels, the lowest first
 abbrev pub levels : List ℕ → Parsed (Level × Option Level)
@@ -112,7 +109,7 @@ printable = within 32 126
 
 -- so many bytes that a note may hold
 abbrev pub text : ℕ → List ℕ → Parsed (List ℕ)
-text n bs = and_then (plain n bs) (λ bytes rest. cond (each printable bytes) (Took bytes rest) (Refuses Limit))
+text n bs = and_then (plain n bs) (λ bytes rest. if list_all printable bytes then Took bytes rest else Refuses Limit)
 
 -- the fields of a note: length and text
 abbrev pub note_fields : List ℕ → Parsed Item
@@ -129,5 +126,5 @@ fields (suc (suc (suc (suc n)))) bs = note_fields bs
 -- the record at the front of bytes that are not all read, where a setup is due exactly if it is the first
 abbrev pub decode : Bool → List ℕ → Parsed Item
 decode first [] = Refuses Truncated
-decode true (kind ∷ bs) = cond (nat_lt 4 kind) (Refuses Kind) (cond (kind == 0) (fields kind bs) (Refuses Misplaced))
-decode false (kind ∷ bs) = cond (nat_lt 4 kind) (Refuses Kind) (cond (kind == 0) (Refuses Misplaced) (fields kind bs))
+decode true (kind ∷ bs) = if nat_lt 4 kind then Refuses Kind else if kind == 0 then fields kind bs else Refuses Misplaced
+decode false (kind ∷ bs) = if nat_lt 4 kind then Refuses Kind else if kind == 0 then Refuses Misplaced else fields kind bs

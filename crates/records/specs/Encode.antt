@@ -1,14 +1,14 @@
-use Rattle.std.specs.Prelude.{ℕ, ◌-◌, ◌^◌, Bool, true, false, not, ◌&&◌, List, [], ◌∷◌, ◌++◌, length, Some, None, Option, ◌==◌}
-use Rattle.std.specs.List.{flat_map}
-use Rattle.records.specs.declared.Rule.{Rule}
-use Rattle.records.specs.declared.Rule.TheVariants.{Lru, Fifo}
+use Rattle.std.specs.Prelude.{ℕ, ◌-◌, ◌^◌, Bool, true, false, not, ◌&&◌, List, ◌∷◌, ◌++◌, length, Some, None, Option, ◌==◌}
+use Rattle.std.specs.List.{flat_map, list_all}
 use Rattle.records.specs.declared.Level.{Level}
 use Rattle.records.specs.declared.Bottom.{Bottom}
 use Rattle.records.specs.declared.Bottom.TheVariants.{Ordered, Scripted}
 use Rattle.records.specs.declared.BadLine.{BadLine}
+use Rattle.counts.specs.Counts.{is_count}
 use Rattle.records.specs.Items.{Item, setup, load, store, pass, note}
+use Rattle.records.specs.Numbered.{rule_number}
 use Rattle.records.specs.Numbers.{spelled, within}
-use Rattle.records.specs.Decode.{each, zero_byte, is_side, printable}
+use Rattle.records.specs.Decode.{zero_byte, printable}
 
 -- the memory at the bottom: 1 and its latency, or 2, the length of its script and the script
 abbrev pub bottom_bytes : Bottom → List ℕ → List ℕ
@@ -18,11 +18,6 @@ bottom_bytes (Scripted length) script = spelled 2 ++ (spelled length ++ script)
 -- a bad line and its cause
 abbrev pub bad_line_bytes : BadLine → List ℕ
 bad_line_bytes b = spelled b.line ++ spelled b.cause
-
--- the number of a replacement rule
-abbrev pub rule_number : Rule → ℕ
-rule_number Lru = 1
-rule_number Fifo = 2
 
 -- the sets, the ways and the rule of a level
 abbrev pub level_bytes : Level → List ℕ
@@ -44,7 +39,7 @@ encode (note bytes) = 4 ∷ (spelled (length bytes) ++ bytes)
 -- whether a setup's memory is one that a trace can name, with its script
 abbrev pub bottom_in_limits : Bottom → List ℕ → Bool
 bottom_in_limits (Ordered latency) script = within 1 64 latency && length script == 0
-bottom_in_limits (Scripted n) script = within 1 64 n && (length script == n && not (each zero_byte script))
+bottom_in_limits (Scripted n) script = within 1 64 n && (length script == n && not (list_all zero_byte script))
 
 -- whether a bad line and its cause are within their limits
 abbrev pub bad_line_in_limits : BadLine → Bool
@@ -52,12 +47,11 @@ bad_line_in_limits b = within 0 4095 b.line && within 0 255 b.cause
 
 -- whether each bad line is
 abbrev pub bad_lines_in_limits : List BadLine → Bool
-bad_lines_in_limits [] = true
-bad_lines_in_limits (b ∷ bs) = bad_line_in_limits b && bad_lines_in_limits bs
+bad_lines_in_limits bad = list_all bad_line_in_limits bad
 
 -- whether the sets and ways of a level are some that a geometry has
 abbrev pub level_in_limits : Level → Bool
-level_in_limits l = is_side l.sets && is_side l.ways
+level_in_limits l = is_count l.sets && is_count l.ways
 
 -- whether a second level, if there is one, is within its limits
 abbrev pub upper_in_limits : Option Level → Bool
@@ -70,7 +64,7 @@ in_limits (setup s script bad) = within 1 4096 s.lines && (bottom_in_limits s.bo
 in_limits (load size address) = within 0 255 size && within 0 (2 ^ 32 - 1) address
 in_limits (store size address value) = within 0 255 size && (within 0 (2 ^ 32 - 1) address && within 0 (2 ^ 64 - 1) value)
 in_limits (pass steps) = within 1 1000 steps
-in_limits (note bytes) = within 0 60 (length bytes) && each printable bytes
+in_limits (note bytes) = within 0 60 (length bytes) && list_all printable bytes
 
 -- whether a record is a setup
 abbrev pub is_setup : Item → Bool

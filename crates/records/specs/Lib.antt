@@ -1,5 +1,6 @@
 pub mod Parsed
 pub mod Numbers
+pub mod Numbered
 pub mod Items
 pub mod Decode
 pub mod Encode

@@ -1,10 +1,10 @@
-use Rattle.std.specs.Prelude.{ℕ, zero, suc, ◌+◌, ◌-◌, ◌*◌, ◌/◌, ◌%◌, ◌^◌, ◌<◌, ◌≤◌, Bool, cond, ◌&&◌, List, [], ◌∷◌, length, Some, None, Option, nat_le, nat_lt, slice_index}
+use Rattle.std.specs.Prelude.{ℕ, zero, suc, ◌+◌, ◌-◌, ◌*◌, ◌/◌, ◌%◌, ◌^◌, ◌<◌, ◌≤◌, Bool, if◌then◌else◌, ◌&&◌, List, [], ◌∷◌, length, Some, None, Option, nat_le, nat_lt, slice_index}
 use Rattle.records.specs.declared.Refusal.TheVariants.{Truncated, Number, Limit}
 use Rattle.records.specs.Parsed.{Parsed, Took, Refuses, and_then}
 
 -- a group of seven bits below a number that is written in shortest form: not below 0, which needs no group more, nor where the whole is 2^64 or more
 abbrev pub grouped : ℕ → ℕ → Option ℕ
-grouped high low = cond (nat_lt 0 high && nat_lt high (2 ^ 57)) (Some (high * 128 + low)) None
+grouped high low = if nat_lt 0 high && nat_lt high (2 ^ 57) then Some (high * 128 + low) else None
 
 -- a number, if there is one
 abbrev pub or_refused : Option ℕ → List ℕ → Parsed ℕ
@@ -18,7 +18,7 @@ below low high rest = or_refused (grouped high low) rest
 -- the number at the front: groups of seven bits, lowest first, the top bit set on all bytes but the last, in the fewest bytes, below 2^64
 abbrev pub number : List ℕ → Parsed ℕ
 number [] = Refuses Truncated
-number (b ∷ bs) = cond (nat_lt b 128) (Took b bs) (and_then (number bs) (below (b - 128)))
+number (b ∷ bs) = if nat_lt b 128 then Took b bs else and_then (number bs) (below (b - 128))
 
 -- every byte before a place has its top bit set
 abbrev pub Continued : List ℕ → ℕ → Type 0
@@ -31,7 +31,7 @@ Ends bs last = (last < length bs) × (slice_index bs last < 128) × Continued bs
 -- the bytes of a number that needs at most so many groups after its first
 abbrev pub groups : ℕ → ℕ → List ℕ
 groups zero n = n ∷ []
-groups (suc k) n = cond (nat_lt n 128) (n ∷ []) ((n % 128 + 128) ∷ groups k (n / 128))
+groups (suc k) n = if nat_lt n 128 then n ∷ [] else (n % 128 + 128) ∷ groups k (n / 128)
 
 -- the bytes of a number below 2^64
 abbrev pub spelled : ℕ → List ℕ
@@ -43,4 +43,4 @@ within low high n = nat_le low n && nat_le n high
 
 -- a number between two limits
 abbrev pub number_within : ℕ → ℕ → List ℕ → Parsed ℕ
-number_within low high bs = and_then (number bs) (λ n rest. cond (within low high n) (Took n rest) (Refuses Limit))
+number_within low high bs = and_then (number bs) (λ n rest. if within low high n then Took n rest else Refuses Limit)

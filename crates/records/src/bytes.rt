@@ -1,21 +1,19 @@
-ghost use Rattle.records.specs.Decode.{each};
+ghost use Rattle.records.specs.Decode.{zero_byte};
 ghost use Rattle.records.specs.Numbers.{within};
+ghost use Rattle.std.specs.List.{list_all};
 ghost use Rattle.std.specs.Prelude.{◌≡◌};
 
 /// Whether every byte lies between two limits.
+// Two numbers and no `RangeInclusive`, which may be used up and is one case more in each contract.
 pub fn all_within(bytes: &[u8], low: u8, high: u8) -> bool
-    ensures { result ≡ each (within low high) bytes.now }
+    ensures { result ≡ list_all (within low high) bytes.now }
 {
-    for b in bytes {
-        if !is_within(*b, low, high) {
-            return false;
-        }
-    }
-    true
+    bytes.iter().all(|byte| (low..=high).contains(byte))
 }
 
-fn is_within(byte: u8, low: u8, high: u8) -> bool
-    ensures { result ≡ within low high byte }
+/// Whether every byte is 0.
+pub fn all_zero(bytes: &[u8]) -> bool
+    ensures { result ≡ list_all zero_byte bytes.now }
 {
-    low <= byte && byte <= high
+    bytes.iter().all(|byte| *byte == 0)
 }

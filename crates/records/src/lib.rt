@@ -2,11 +2,11 @@
 #![tactic(auto)]
 
 ghost use Rattle.records.specs.Items.{empty_place};
-ghost use Rattle.records.specs.Parsed.{refusal_code};
 ghost use Rattle.std.specs.Prelude.{◌≡◌};
 
 pub mod bytes;
 pub mod number;
+pub mod numbered;
 
 /// Why a record is not read or not written.
 #[derive(Clone, Copy, PartialEq, Eq, Debug)]
@@ -25,24 +25,18 @@ pub enum Refusal {
     Room,
 }
 
-impl Refusal {
-    /// The number that stands for this refusal in a listing.
-    pub fn code(self) -> u8
-        ensures { result ≡ refusal_code self }
-    {
-        match self {
-            Refusal::Truncated => 1,
-            Refusal::Number => 2,
-            Refusal::Kind => 3,
-            Refusal::Limit => 4,
-            Refusal::Misplaced => 5,
-            Refusal::Room => 12,
-        }
-    }
+/// The kind of a record.
+#[derive(Clone, Copy, PartialEq, Eq, Debug)]
+pub enum Kind {
+    Setup,
+    Load,
+    Store,
+    Pass,
+    Note,
 }
 
 /// A replacement rule, by name.
-#[derive(Clone, Copy)]
+#[derive(Clone, Copy, PartialEq, Eq, Debug)]
 pub enum Rule {
     Lru,
     Fifo,
@@ -84,6 +78,7 @@ pub struct Setup {
 }
 
 /// Where a setup's script and bad lines lie.
+// A place of the caller's, of fixed size, so that reading takes no memory: a setup tells how much of it is its own.
 #[derive(Clone, Copy)]
 pub struct SetupPlace {
     pub script: [u8; 64],

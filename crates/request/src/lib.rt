@@ -1,7 +1,7 @@
 //! Which requests to the memory are lawful, and why another one is refused.
 #![tactic(auto)]
 
-ghost use Rattle.std.specs.Prelude.{◌≡◌, is_ok, Decides};
+ghost use Rattle.std.specs.Prelude.{◌≡◌, ◌↔◌, IsOk};
 ghost use Rattle.request.specs.Requests.{refusal_code, load_answer, store_answer, LawfulLoad, LawfulStore};
 
 use line::values::is_size;
@@ -22,12 +22,12 @@ pub enum Refusal {
     Value,
 }
 
-impl Refusal {
-    /// The number of the refusal.
-    pub fn code(self) -> u8
-        ensures { result ≡ refusal_code self }
-    {
-        match self {
+/// The number of the refusal.
+impl From<Refusal> for u8 {
+    ghost from_gives = { λ refusal code. code ≡ refusal_code refusal };
+
+    fn from(refusal: Refusal) -> u8 {
+        match refusal {
             Refusal::Size => 6,
             Refusal::Alignment => 7,
             Refusal::Range => 8,
@@ -36,10 +36,12 @@ impl Refusal {
     }
 }
 
+// Size and address are two arguments, as a record holds them: a type of lawful pairs could not say why one is not lawful.
+
 /// Whether a load of `size` bytes at `address` is lawful in a memory of `lines` lines of 16 bytes.
 pub fn check_load(lines: u16, size: u8, address: u32) -> Result<(), Refusal>
     ensures answer { result ≡ load_answer lines size address }
-    ensures lawful { Decides (is_ok result) (LawfulLoad lines size address) }
+    ensures lawful { IsOk result ↔ LawfulLoad lines size address }
 {
     if !is_size(size) {
         return Err(Refusal::Size);
@@ -56,7 +58,7 @@ pub fn check_load(lines: u16, size: u8, address: u32) -> Result<(), Refusal>
 /// Whether a store of `value` in `size` bytes at `address` is lawful in a memory of `lines` lines of 16 bytes.
 pub fn check_store(lines: u16, size: u8, address: u32, value: u64) -> Result<(), Refusal>
     ensures answer { result ≡ store_answer lines size address value }
-    ensures lawful { Decides (is_ok result) (LawfulStore lines size address value) }
+    ensures lawful { IsOk result ↔ LawfulStore lines size address value }
 {
     check_load(lines, size, address)?;
     // compares with the largest value of `size` bytes

@@ -11,7 +11,7 @@ fn refusal(trace: &[u8]) -> Option<(u8, usize)> {
         match reader.next(&mut place) {
             Ok(Some(_)) => {}
             Ok(None) => return None,
-            Err(refused) => return Some((refused.refusal.code(), refused.place)),
+            Err(refused) => return Some((u8::from(refused.refusal), refused.place)),
         }
     }
     None

@@ -1,4 +1,4 @@
-use Rattle.std.specs.Prelude.{◌≡◌, ℕ, ◌+◌, Bool, cond, List, [], ◌∷◌, ◌++◌, length, take, drop, Ok, Err, Result, ◌==◌, nat_le, nat_lt}
+use Rattle.std.specs.Prelude.{◌≡◌, ℕ, ◌+◌, Bool, if◌then◌else◌, List, [], ◌∷◌, ◌++◌, length, take, drop, Ok, Err, Result, ◌==◌, nat_le, nat_lt}
 use Rattle.records.specs.declared.Refusal.{Refusal}
 use Rattle.records.specs.declared.Refusal.TheVariants.{Limit, Misplaced, Room}
 use Rattle.records.specs.Encode.{encode, in_limits, is_setup}
@@ -7,17 +7,18 @@ use Rattle.records.specs.Whole.{Trace}
 
 -- whether a record may not stand after so many bytes: a setup after some, or another after none
 abbrev pub misplaced : ℕ → Item → Bool
-misplaced written item = cond (is_setup item) (nat_lt 0 written) (written == 0)
+misplaced written item = if is_setup item then nat_lt 0 written else written == 0
 
 -- what adding bytes after so many answers, in a place so long
 abbrev pub adding : ℕ → ℕ → List ℕ → Result (Unit {0}) Refusal
-adding written room bytes = cond (nat_le (written + length bytes) room) (Ok tt) (Err Room)
+adding written room bytes = if nat_le (written + length bytes) room then Ok tt else Err Room
 
 -- what writing a record after so many bytes answers, in a place so long: the first refusal that applies
 abbrev pub writing : ℕ → ℕ → Item → Result (Unit {0}) Refusal
 writing written room item =
-    cond (misplaced written item) (Err Misplaced)
-    (cond (in_limits item) (adding written room (encode item)) (Err Limit))
+    if misplaced written item then Err Misplaced
+    else if in_limits item then adding written room (encode item)
+    else Err Limit
 
 -- how many bytes stand written once these were added or refused
 abbrev pub written_after : Result (Unit {0}) Refusal → ℕ → List ℕ → ℕ

@@ -16,6 +16,7 @@ mod limits;
 #[derive(Drop)]
 pub struct Writer<'a> {
     place: &'a mut [u8],
+    // A count beside the place: it is the caller's, lent at its full length, so that writing takes no memory.
     written: usize,
 }
 
@@ -23,10 +24,7 @@ pub struct Writer<'a> {
 fn is_misplaced(record: &Record<'_>, written: usize) -> bool
     ensures { (p : SetupPlace) → result ≡ misplaced written (item_of «record».now p) }
 {
-    match record {
-        Record::Setup(_) => written > 0,
-        _ => written == 0,
-    }
+    matches!(record, Record::Setup(_)) != (written == 0)
 }
 
 // Puts bytes into a place from there on, if they fit. What the place holds are bytes, as its type says and its list does not.
@@ -35,10 +33,12 @@ fn put(place: &mut [u8], from: usize, bytes: &[u8]) -> Result<(), Refusal>
     ensures after { place.new ≡ place_after result from bytes.now place.old }
     ensures octets { (k : ℕ) → slice_index place.old k < 256 }
 {
-    if from > place.len() || bytes.len() > place.len() - from {
-        return Err(Refusal::Room);
-    }
-    place[from..from + bytes.len()].copy_from_slice(bytes);
+    // By index: std leaves open what a slice holds after a write through `get_mut`.
+    let to = from
+        .checked_add(bytes.len())
+        .filter(|to| *to <= place.len())
+        .ok_or(Refusal::Room)?;
+    place[from..to].copy_from_slice(bytes);
     Ok(())
 }
 

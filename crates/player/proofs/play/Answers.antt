@@ -1,5 +1,5 @@
 use Rattle.std.proofs.Common.{◌≡◌, ◌+◌, ◌*◌, ◌≤◌, ◌++◌, length, vec_items, vec_len, vec_capacity, refl, ap, ◌∙◌, subst, arith, rules}
-use Rattle.buffer.specs.Held.{kept}
+use Rattle.buffer.specs.Kept.{kept}
 use Rattle.listing.specs.Shown.{shown, ended_line, refused_fields, end_fields}
 use Rattle.records.specs.Parsed.{refusal_code}
 use Rattle.std.proofs.lemmas.List.{length-append}
@@ -24,7 +24,7 @@ returns c =
           elim c.match-refusal.branch [
             | in-Some+in_ok-push_line w ↦
                 (let r = w.in-Some.refusal in
-                let line = ap kept (w.refused_line.ensures ∙ ap (λ k. ended_line (refused_fields count.«record» k)) w.code.ensures) ∙ short_kept (ended_line (refused_fields count.«record» (refusal_code r))) (cut_short count.«record» r few.0) in
+                let line = ap kept (w.refused_line.ensures ∙ ap (λ k. ended_line (refused_fields count.«record» k)) w.from.ensures) ∙ short_kept (ended_line (refused_fields count.«record» (refusal_code r))) (cut_short count.«record» r few.0) in
                 cut_listing c.args.trace.now (vec_items bs) (vec_items c.match-refusal.bytes) (vec_items c.push_line-2.new.bytes) count r
                 (subst (λ o. Played c.args.trace.now (vec_items bs) count o) w.in-Some.is c.in_ok-bytes.ensures.shown)
                 (ap vec_items w.bytes-is ∙ w.in_ok-push_line.ensures.items ∙ ap (λ xs. vec_items bs ++ xs) line)
@@ -42,7 +42,7 @@ returns-in_err-push_line c =
     let count = c.in_ok-bytes.count in
     let few = counts_small c.args.trace.now (vec_items bs) count c.in_ok-bytes.refusal c.in_ok-bytes.ensures.shown in
     let room = c.in_ok-bytes.ensures.room in
-    let brief : length (kept (shown c.refused_line.result)) ≤ 64 = brief_cut (shown c.refused_line.result) count.«record» c.code.result c.in-Some.refusal few.0 c.refused_line.ensures c.code.ensures in
+    let brief : length (kept (shown c.refused_line.result)) ≤ 64 = brief_cut (shown c.refused_line.result) count.«record» c.from.result c.in-Some.refusal few.0 c.refused_line.ensures c.from.ensures in
     record {
       listing = IfOk-from_err c.from_residual-in_err-push_line.result _ c.from_residual-in_err-push_line.ensures.0;
       succeeds = λ h. absurd (omega (arith, c.in_err-push_line.ensures.full, brief, h, room.0, room.1));
@@ -58,7 +58,7 @@ returns-in_err-push_line-2 c =
     let before : (vec_len c.match-refusal.bytes ≤ 64 * (length c.args.trace.now + 1)) × (vec_capacity c.args.place ≤ vec_capacity c.match-refusal.bytes) =
     elim c.match-refusal.branch [
       | in-Some+in_ok-push_line w ↦
-          (let fits : length (kept (shown w.refused_line.result)) ≤ 64 = brief_cut (shown w.refused_line.result) count.«record» w.code.result w.in-Some.refusal few.0 w.refused_line.ensures w.code.ensures in
+          (let fits : length (kept (shown w.refused_line.result)) ≤ 64 = brief_cut (shown w.refused_line.result) count.«record» w.from.result w.in-Some.refusal few.0 w.refused_line.ensures w.from.ensures in
           let more = ap length w.in_ok-push_line.ensures.items ∙ length-append (vec_items bs) (kept (shown w.refused_line.result)) in
           let same = ap vec_len w.bytes-is in
           let cap = ap vec_capacity w.bytes-is in (omega (arith, same, fits, more, room.0, w.push_line.new.bytes.ok.0, bs.ok.0), omega (arith, cap, room.1, w.in_ok-push_line.ensures.capacity)))

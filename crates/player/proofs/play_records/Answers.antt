@@ -1,4 +1,4 @@
-use Rattle.std.proofs.Common.{◌≡◌, ◌≤◌, ◌++◌, length, vec_items, refl, ap, ◌∙◌, arith, rules}
+use Rattle.std.proofs.Common.{◌≡◌, ◌++◌, length, vec_items, refl, ap, ◌∙◌, arith, rules}
 use Rattle.records.specs.Items.{item_of}
 use Rattle.reader.proofs.Runs.{given, gave_there, passed_whole}
 use Rattle.reader.specs.Reading.{gave, ended, reading}
@@ -31,7 +31,7 @@ loop-next-preserved c =
     let whole = short_kept (item_line c.loop-next.count.lines c.loop-next.count.«record» item) short in
     let p = c.in_ok-push_record-in-Ok-Some.ensures in (
       c.in-Ok-Some.ensures.trace ∙ c.loop-next.invariant.0,
-      shown_further c.args.trace.now c.loop-next.reader.place c.next.new.self.place item (vec_items c.loop-next.bytes) (vec_items c.push_record.new.bytes) c.loop-next.count c.push_record.new.count c.loop-next.invariant.1 g.gives (p.items ∙ ap (λ xs. vec_items c.loop-next.bytes ++ xs) whole) p.after g.on short,
+      shown_further c.args.trace.now c.loop-next.reader.place c.next.new.self.place item (vec_items c.loop-next.bytes) (vec_items c.push_record.new.bytes) c.loop-next.count c.push_record.new.count c.loop-next.invariant.1 g.gives (p.items c.next.new.place ∙ ap (λ xs. vec_items c.loop-next.bytes ++ xs) whole) (p.after c.next.new.place) g.on short,
       omega (arith, p.capacity, c.loop-next.invariant.2),
     )
 
@@ -47,7 +47,7 @@ returns-in_err-push_record-in-Ok-Some c =
     record {
       shown = IfOk-from_err c.from_residual.result _ failed;
       room = IfOk-from_err c.from_residual.result _ failed;
-      succeeds = λ h. absurd (omega (arith, c.in_err-push_record-in-Ok-Some.ensures.full, same, short, h, g.on, g.inside, c.loop-next.invariant.1.few, c.loop-next.invariant.2, c.clear.ensures.capacity, c.loop-next.bytes.ok.0));
+      succeeds = λ h. absurd (omega (arith, c.in_err-push_record-in-Ok-Some.ensures.full c.next.new.place, same, short, h, g.on, g.inside, c.loop-next.invariant.1.few, c.loop-next.invariant.2, c.clear.ensures.capacity, c.loop-next.bytes.ok.0));
     }
 
 pub returns-in-Ok-None : goal.returns-in-Ok-None
@@ -59,14 +59,5 @@ returns-in-Ok-None c =
     record {
       shown = (s.items, passed_whole trace (λ k. omega (arith, c.type_inv.trace k)) s.passed g.0 g.1, s.shows, s.counts);
       room = (omega (arith, s.few, g.1, c.loop-next.bytes.ok.0), omega (arith, c.loop-next.invariant.2, c.clear.ensures.capacity));
-      succeeds = λ h. refl;
-    }
-
-pub returns-in-Err : goal.returns-in-Err
-returns-in-Err c =
-    let l : c.loop-next.reader.place ≤ length c.args.trace.now = omega (arith, ap length c.loop-next.invariant.0) in
-    record {
-      shown = search rules;
-      room = (omega (arith, c.loop-next.invariant.1.few, c.loop-next.bytes.ok.0), omega (arith, c.loop-next.invariant.2, c.clear.ensures.capacity));
       succeeds = λ h. refl;
     }

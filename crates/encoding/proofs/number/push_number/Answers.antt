@@ -1,10 +1,6 @@
 use Rattle.std.proofs.Common.{arith, rules}
-use Rattle.buffer.specs.Held.{held}
-use Rattle.encoding.proofs.Groups.{group_pushed, last_pushed}
+use Rattle.encoding.proofs.Groups.{group_pushed}
 use Rattle.encoding.proofs.number.push_number.Goals as goal
 
 pub loop-rest-preserved : goal.loop-rest-preserved
-loop-rest-preserved c = (omega arith, search (rules, group_pushed (held c.loop-rest.buffer)))
-
-pub returns : goal.returns
-returns c = search (rules, last_pushed (held c.loop-rest.buffer))
+loop-rest-preserved c = (omega arith, search (rules, group_pushed))

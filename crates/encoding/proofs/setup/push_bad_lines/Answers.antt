@@ -1,26 +1,23 @@
-use Rattle.std.proofs.Common.{◌+◌, ◌++◌, get_or, drop, sym, refl, ap, ◌∙◌}
-use Rattle.std.proofs.lemmas.List.{at_drop_more, at_drop_all, append-nil}
+use Rattle.std.proofs.Common.{◌≡◌, ℕ, ◌+◌, ◌<◌, List, ◌++◌, get_or, length, take, ap, ◌∙◌, arith, append_assoc}
+use Rattle.std.proofs.lemmas.List.{take_more}
+use Rattle.std.proofs.lemmas.Grind.{common_steps}
 use Rattle.std.specs.List.{flat_map}
-use Rattle.buffer.specs.Held.{held, kept}
-use Rattle.buffer.proofs.Kept.{kept-held, appended}
+use Rattle.buffer.specs.Kept.{kept}
+use Rattle.buffer.proofs.Kept.{appended}
 use Rattle.records.specs.declared.BadLine.{BadLine}
 use Rattle.records.specs.Encode.{bad_line_bytes}
 use Rattle.records.specs.Numbers.{spelled}
 use Rattle.encoding.proofs.setup.push_bad_lines.Goals as goal
 
+-- the bytes of one line more
+line_more : (bad : List BadLine) (i : ℕ) (d : BadLine) → i < length bad → flat_map bad_line_bytes (take i bad) ++ bad_line_bytes (get_or bad i d) ≡ flat_map bad_line_bytes (take (i + 1) bad)
+line_more bad i d h = grind (arith, common_steps, take_more)
+
 pub loop-b-preserved : goal.loop-b-preserved
 loop-b-preserved c =
     let none : BadLine = record { line = 0; cause = 0 } in
-    let b : BadLine = get_or c.args.bad.now c.loop-b.b-index none in
-    let h = held c.loop-b.buffer in
-    appended h (bad_line_bytes b) (flat_map bad_line_bytes (drop (c.loop-b.b-index + 1) c.args.bad.now))
-    (appended h (spelled b.line) (spelled b.cause) c.push_number.ensures c.push_number-in-loop-b.ensures) refl
-    ∙ ap (λ l. kept (h ++ l)) (sym (at_drop_more (flat_map bad_line_bytes) c.args.bad.now c.loop-b.b-index none c.loop-b-test.true))
-    ∙ c.loop-b.invariant
-
-pub returns : goal.returns
-returns c =
-    let h = held c.loop-b.buffer in
-    sym (ap kept (append-nil h) ∙ kept-held c.loop-b.buffer)
-    ∙ ap (λ l. kept (h ++ l)) (sym (at_drop_all (flat_map bad_line_bytes) c.args.bad.now c.loop-b.b-index c.loop-b-test.false))
-    ∙ c.loop-b.invariant
+    let items = c.front-b-items.result.now in
+    let so_far : List ℕ = flat_map bad_line_bytes (take c.loop-b.b-index items) in
+    let count : List ℕ = spelled c.args.count in
+    appended c.args.buffer.now (count ++ so_far) (bad_line_bytes (get_or items c.loop-b.b-index none)) c.loop-b.invariant c.push_bad_line.ensures
+    ∙ ap (λ l. kept (c.args.buffer.now ++ l)) (append_assoc count so_far _ ∙ ap (λ l. count ++ l) (line_more items c.loop-b.b-index none c.loop-b-test.true))

@@ -1,51 +1,47 @@
-use Rattle.std.proofs.Common.{sym, arith, rules}
+use Rattle.std.proofs.Common.{◌≡◌, ◌++◌, true, drop, Ok, Err, IfOk, sym, ap, ◌∙◌, subst, arith, rules}
+use Rattle.records.specs.Encode.{encode, in_limits}
 use Rattle.records.specs.Items.{item_of}
-use Rattle.reader.proofs.Next.{read_ended, read_refused, read_gave, read_length, gave_written, ended_written, refused_written}
+use Rattle.decoding.specs.Places.{seen}
+use Rattle.reader.proofs.Next.{read_refused, read_gave, read_length, gave_written, refused_written}
 use Rattle.reader.proofs.Reader.next.Goals as goal
 
-pub returns-then-is_over : goal.returns-then-is_over
-returns-then-is_over c =
+pub returns-in_err-record : goal.returns-in_err-record
+returns-in_err-record c =
     let trace = c.args.self.now.trace.now in
     let at = c.args.self.now.place in
-    let o = sym c.if-is_over.ensures in
-    let e = read_ended trace at o in
+    let refusal = c.in_err-record.field-0.0.refusal in
+    let r : c.read_record.result ≡ Err refusal = search rules in
+    let e = read_refused trace at c.args.place.now refusal (sym c.if-is_over.ensures) (sym (ap seen r) ∙ c.read_record.ensures.value) in
     record {
       trace = search rules;
       value = search rules;
       after = search rules;
       filled = search rules;
-      noted = tt;
-      written = ended_written trace at (omega arith) o;
+      noted = search rules;
+      written = refused_written trace at refusal e;
     }
 
 pub overflow_sub-self : goal.overflow_sub-self
-overflow_sub-self c = omega (arith, read_length c.args.self.now.trace.now c.args.self.now.place (omega arith) (item_of c.in-Ok.record c.in-Ok.filled) c.in-Ok.rest.now c.in-Ok.ensures.written.0)
-
-pub returns-in-Ok : goal.returns-in-Ok
-returns-in-Ok c =
+overflow_sub-self c =
     let trace = c.args.self.now.trace.now in
     let at = c.args.self.now.place in
-    let item = item_of c.in-Ok.record c.in-Ok.filled in
-    let g = read_gave trace at c.args.place.now c.in-Ok.filled item c.in-Ok.rest.now (sym c.if-is_over.ensures) c.in-Ok.ensures.value in
+    let r : c.read_record.result ≡ Ok ((c.in_ok-record.record, c.in_ok-record.filled), c.in_ok-record.rest) = search rules in
+    let w = subst (λ r. IfOk r (λ s. (drop at trace ≡ encode (item_of s.0.0 s.0.1) ++ s.1.now) × (in_limits (item_of s.0.0 s.0.1) ≡ true))) r c.read_record.ensures.written in
+    omega (arith, read_length trace at (omega arith) (item_of c.in_ok-record.record c.in_ok-record.filled) c.in_ok-record.rest.now w.0)
+
+pub returns : goal.returns
+returns c =
+    let trace = c.args.self.now.trace.now in
+    let at = c.args.self.now.place in
+    let item = item_of c.in_ok-record.record c.in_ok-record.filled in
+    let r : c.read_record.result ≡ Ok ((c.in_ok-record.record, c.in_ok-record.filled), c.in_ok-record.rest) = search rules in
+    let w = subst (λ r. IfOk r (λ s. (drop at trace ≡ encode (item_of s.0.0 s.0.1) ++ s.1.now) × (in_limits (item_of s.0.0 s.0.1) ≡ true))) r c.read_record.ensures.written in
+    let g = read_gave trace at c.args.place.now c.in_ok-record.filled item c.in_ok-record.rest.now (sym c.if-is_over.ensures) (sym (ap seen r) ∙ c.read_record.ensures.value) in
     record {
       trace = search rules;
       value = search rules;
       after = search rules;
       filled = search rules;
-      noted = c.in-Ok.ensures.noted;
-      written = gave_written trace at (omega arith) item c.in-Ok.rest.now c.in-Ok.ensures.written.0 c.in-Ok.ensures.written.1 g.0;
-    }
-
-pub returns-in-Err : goal.returns-in-Err
-returns-in-Err c =
-    let trace = c.args.self.now.trace.now in
-    let at = c.args.self.now.place in
-    let e = read_refused trace at c.args.place.now c.in-Err.refusal (sym c.if-is_over.ensures) c.in-Err.ensures.value in
-    record {
-      trace = search rules;
-      value = search rules;
-      after = search rules;
-      filled = search rules;
-      noted = tt;
-      written = refused_written trace at c.in-Err.refusal e;
+      noted = search rules;
+      written = gave_written trace at (omega arith) item c.in_ok-record.rest.now w.0 w.1 g.0;
     }

@@ -1,24 +1,16 @@
-use Rattle.std.proofs.Common.{◌+◌, ◌-◌, ◌≤◌, get_or, drop, sym, ap, ◌∙◌, arith}
-use Rattle.records.specs.declared.Refusal.TheVariants.{Number}
+use Rattle.std.proofs.Common.{◌+◌, drop, sym, ap, ◌∙◌, subst, rules}
 use Rattle.records.specs.Numbers.{or_refused}
-use Rattle.records.specs.Parsed.{Took}
-use Rattle.records.proofs.Numbers.{number_last, number_before, refused_on}
+use Rattle.records.proofs.Numbers.{Above, last_is_above, group_is_below, group_is_refused}
 use Rattle.records.proofs.number.read_groups.Goals as goal
 
-pub loop-i-init : goal.loop-i-init
-loop-i-init c =
-    number_last c.args.bytes.now c.args.last c.requires.0 c.requires.1
-    ∙ ap (λ v. Took v (drop (c.args.last + 1) c.args.bytes.now)) (sym c.from-value.ensures)
+pub loop-group-init : goal.loop-group-init
+loop-group-init c = search (rules, last_is_above)
 
-pub returns-in_default : goal.returns-in_default
-returns-in_default c =
-    let high : 128 ≤ get_or c.args.bytes.now (c.loop-i.i - 1) 0 = c.requires.2 (c.loop-i.i - 1) (omega arith) in
-    sym (refused_on (c.loop-i.i - 1) c.args.bytes.now Number (omega arith) (λ k h. c.requires.2 k (omega arith))
-    (number_before c.args.bytes.now c.loop-i.i c.loop-i.value (drop (c.args.last + 1) c.args.bytes.now) (omega arith) (omega arith) high c.loop-i.invariant
-    ∙ ap (λ o. or_refused o (drop (c.args.last + 1) c.args.bytes.now)) (sym c.in_default.ensures)))
+pub returns-in_err-value : goal.returns-in_err-value
+returns-in_err-value c =
+    let a = subst (λ l. Above c.args.bytes.now l c.loop-group.value (drop (c.args.last + 1) c.args.bytes.now)) c.in-Some.ensures.steps c.loop-group.invariant in
+    ap (λ o. or_refused o (drop (c.args.last + 1) c.args.bytes.now)) c.from_residual.ensures
+    ∙ sym (group_is_refused c.args.bytes.now c.next.new.self.iter.rest.now c.in-Some.group.now c.loop-group.value (drop (c.args.last + 1) c.args.bytes.now) a (sym c.in_err-value.ensures))
 
-pub loop-i-preserved : goal.loop-i-preserved
-loop-i-preserved c =
-    let high : 128 ≤ get_or c.args.bytes.now (c.loop-i.i - 1) 0 = c.requires.2 (c.loop-i.i - 1) (omega arith) in
-    number_before c.args.bytes.now c.loop-i.i c.loop-i.value (drop (c.args.last + 1) c.args.bytes.now) (omega arith) (omega arith) high c.loop-i.invariant
-    ∙ ap (λ o. or_refused o (drop (c.args.last + 1) c.args.bytes.now)) (sym c.in-Some.ensures)
+pub loop-group-preserved : goal.loop-group-preserved
+loop-group-preserved c = search (rules, group_is_below)
