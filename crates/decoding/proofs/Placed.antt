@@ -14,7 +14,17 @@ use Rattle.records.specs.Numbers.{number_within}
 use Rattle.records.specs.Parsed.{Parsed, Took, Refuses, and_then}
 use Rattle.records.proofs.Laws.{came, script_was}
 use Rattle.records.proofs.Spelled.{took_as}
-use Rattle.decoding.specs.Places.{onto, setup_onto, filled, fields_onto}
+use Rattle.decoding.specs.Places.{onto, bottom_onto, bad_lines_onto, filled, fields_onto}
+
+-- the fields of a setup, with its script and bad lines in the front of a place
+abbrev pub setup_onto : SetupPlace → List ℕ → Parsed (Setup × SetupPlace)
+setup_onto p bs =
+    and_then (number_within 1 4096 bs) (λ lines rest.
+    and_then (bottom_onto p.script rest) (λ b rest.
+    and_then (number_within 0 32 rest) (λ count rest.
+    and_then (bad_lines_onto count p.bad rest) (λ bad rest.
+    and_then (levels rest) (λ l rest.
+    Took (record { lines = lines; bottom = b.0; bad = count; lowest = l.0; upper = l.1 }, record { script = b.1; bad = bad }) rest)))))
 
 -- two ways on from the same value
 both : {X Y Z W : Type 0} (q : Parsed X) (f : X → List ℕ → Parsed Y) (f' : X → List ℕ → Parsed Z) (g : Y → List ℕ → Parsed W) (g' : Z → List ℕ → Parsed W) → ((x : X) (r : List ℕ) → q ≡ Took x r → and_then (f x r) g ≡ and_then (f' x r) g') → and_then (and_then q f) g ≡ and_then (and_then q f') g'

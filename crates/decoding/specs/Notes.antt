@@ -14,5 +14,5 @@ Noted (Pass steps) to = Unit {0}
 Noted (Note text place) to = place + length text.now ≡ to
 
 -- the same of a record that was read off a trace of so many bytes
-abbrev pub NotedIn : ℕ → Result ((Record × SetupPlace) × Bor (List ℕ)) Refusal → Type 0
-NotedIn end r = IfOk r (λ s. Noted s.0.0 (end - length s.1.now))
+abbrev pub NotedRead : ℕ → Result ((Record × SetupPlace) × Bor (List ℕ)) Refusal → Type 0
+NotedRead end r = IfOk r (λ s. Noted s.0.0 (end - length s.1.now))

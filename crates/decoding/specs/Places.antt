@@ -5,9 +5,7 @@ use Rattle.records.specs.declared.BadLine.{BadLine}
 use Rattle.records.specs.declared.Record.{Record}
 use Rattle.records.specs.declared.Refusal.{Refusal}
 use Rattle.records.specs.declared.SetupPlace.{SetupPlace}
-use Rattle.records.specs.declared.Setup.{Setup}
-use Rattle.records.specs.Decode.{script, bottom, bad_lines, levels, fields, decode}
-use Rattle.records.specs.Numbers.{number_within}
+use Rattle.records.specs.Decode.{script, bottom, bad_lines, fields, decode}
 use Rattle.records.specs.Items.{Item, setup, load, store, pass, note, item_of}
 use Rattle.records.specs.Parsed.{Parsed, Took, and_then, parsed_as}
 
@@ -26,16 +24,6 @@ bottom_onto old bs = and_then (bottom bs) (λ b rest. Took (b.0, onto b.1 old) r
 -- bad lines that go into a place
 abbrev pub bad_lines_onto : ℕ → List BadLine → List ℕ → Parsed (List BadLine)
 bad_lines_onto n old bs = and_then (bad_lines n bs) (λ bad rest. Took (onto bad old) rest)
-
--- the fields of a setup, with its script and bad lines in the front of a place
-abbrev pub setup_onto : SetupPlace → List ℕ → Parsed (Setup × SetupPlace)
-setup_onto p bs =
-    and_then (number_within 1 4096 bs) (λ lines rest.
-    and_then (bottom_onto p.script rest) (λ b rest.
-    and_then (number_within 0 32 rest) (λ count rest.
-    and_then (bad_lines_onto count p.bad rest) (λ bad rest.
-    and_then (levels rest) (λ l rest.
-    Took (record { lines = lines; bottom = b.0; bad = count; lowest = l.0; upper = l.1 }, record { script = b.1; bad = bad }) rest)))))
 
 -- a place after a record was read: a setup's script and bad lines stand at the front of its two parts
 abbrev pub filled : SetupPlace → Item → SetupPlace

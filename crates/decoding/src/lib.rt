@@ -1,7 +1,7 @@
 //! The record at a place of a trace.
 #![tactic(auto)]
 
-ghost use Rattle.decoding.specs.Notes.{NotedIn};
+ghost use Rattle.decoding.specs.Notes.{NotedRead};
 ghost use Rattle.decoding.specs.Places.{seen, record_onto};
 ghost use Rattle.records.specs.Encode.{encode, in_limits};
 ghost use Rattle.records.specs.Items.{item_of};
@@ -21,7 +21,7 @@ pub fn read_record(
     place: SetupPlace,
 ) -> Result<((Record<'_>, SetupPlace), &[u8]), Refusal>
     ensures value { seen result ≡ record_onto place (at == 0) (drop at trace.now) }
-    ensures noted { NotedIn (length trace.now) result }
+    ensures noted { NotedRead (length trace.now) result }
     ensures written { IfOk result (λ s. (drop at trace.now ≡ encode (item_of s.0.0 s.0.1) ++ s.1.now) × (in_limits (item_of s.0.0 s.0.1) ≡ true)) }
 {
     let bytes = trace.get(at..).ok_or(Refusal::Truncated)?;

@@ -1,7 +1,7 @@
 //! The kinds of records, read off what is left of a trace.
 ghost use Rattle.std.specs.Prelude.{◌≡◌, ◌≤◌, length};
 ghost use Rattle.decoding.specs.Places.{seen, fields_onto, record_onto};
-ghost use Rattle.decoding.specs.Notes.{NotedIn};
+ghost use Rattle.decoding.specs.Notes.{NotedRead};
 ghost use Rattle.records.specs.Numbered.{kind_number};
 
 use crate::fields::{read_bad_lines, read_bottom, read_levels, read_text, read_within};
@@ -19,12 +19,12 @@ pub(crate) struct Tail<'a> {
     ghost within: { length bytes.now ≤ end },
 }
 
-// Each reader tells itself where a note's text lies: no type ties a record to the end of its trace, and that a kind has no
-// text would be a longer proof than its clause.
+// Each reader says by a clause where a note's text lies: a record does not know how long its trace is, and to prove that the
+// other kinds have no text is longer than the clause.
 impl<'a> Tail<'a> {
     fn read_setup(self, place: SetupPlace) -> Read<'a>
-        ensures value { seen result ≡ fields_onto place 0 self.entry.bytes.now }
-        ensures noted { NotedIn self.entry.end result }
+        ensures value { seen result ≡ fields_onto place (kind_number Kind.Setup) self.entry.bytes.now }
+        ensures noted { NotedRead self.entry.end result }
     {
         let (lines, rest) = read_within(self.bytes, 1, 4096)?;
         let ((bottom, script), rest) = read_bottom(rest, place.script)?;
@@ -48,8 +48,8 @@ impl<'a> Tail<'a> {
     }
 
     fn read_load(self, place: SetupPlace) -> Read<'a>
-        ensures value { seen result ≡ fields_onto place 1 self.entry.bytes.now }
-        ensures noted { NotedIn self.entry.end result }
+        ensures value { seen result ≡ fields_onto place (kind_number Kind.Load) self.entry.bytes.now }
+        ensures noted { NotedRead self.entry.end result }
     {
         let (size, rest) = read_within(self.bytes, 0, 255)?;
         let (address, rest) = read_within(rest, 0, 0xffff_ffff)?;
@@ -59,8 +59,8 @@ impl<'a> Tail<'a> {
     }
 
     fn read_store(self, place: SetupPlace) -> Read<'a>
-        ensures value { seen result ≡ fields_onto place 2 self.entry.bytes.now }
-        ensures noted { NotedIn self.entry.end result }
+        ensures value { seen result ≡ fields_onto place (kind_number Kind.Store) self.entry.bytes.now }
+        ensures noted { NotedRead self.entry.end result }
     {
         let (size, rest) = read_within(self.bytes, 0, 255)?;
         let (address, rest) = read_within(rest, 0, 0xffff_ffff)?;
@@ -76,8 +76,8 @@ impl<'a> Tail<'a> {
     }
 
     fn read_pass(self, place: SetupPlace) -> Read<'a>
-        ensures value { seen result ≡ fields_onto place 3 self.entry.bytes.now }
-        ensures noted { NotedIn self.entry.end result }
+        ensures value { seen result ≡ fields_onto place (kind_number Kind.Pass) self.entry.bytes.now }
+        ensures noted { NotedRead self.entry.end result }
     {
         let (steps, rest) = read_within(self.bytes, 1, 1000)?;
         let steps = steps as u16;
@@ -86,8 +86,8 @@ impl<'a> Tail<'a> {
 
     // The place of a note's text is counted from the trace's front.
     fn read_note(self, place: SetupPlace) -> Read<'a>
-        ensures value { seen result ≡ fields_onto place 4 self.entry.bytes.now }
-        ensures noted { NotedIn self.entry.end result }
+        ensures value { seen result ≡ fields_onto place (kind_number Kind.Note) self.entry.bytes.now }
+        ensures noted { NotedRead self.entry.end result }
     {
         let (count, rest) = read_within(self.bytes, 0, 60)?;
         let (text, rest) = read_text(rest, count as usize)?;
@@ -101,7 +101,7 @@ impl<'a> Tail<'a> {
     // The fields of a record of that kind.
     fn read_fields(self, kind: Kind, place: SetupPlace) -> Read<'a>
         ensures value { seen result ≡ fields_onto place (kind_number kind) self.entry.bytes.now }
-        ensures noted { NotedIn self.entry.end result }
+        ensures noted { NotedRead self.entry.end result }
     {
         match kind {
             Kind::Setup => self.read_setup(place),
@@ -115,7 +115,7 @@ impl<'a> Tail<'a> {
     // The record at the front: its kind is checked, then its fields.
     pub(crate) fn read_front(self, first: bool, place: SetupPlace) -> Read<'a>
         ensures value { seen result ≡ record_onto place first self.entry.bytes.now }
-        ensures noted { NotedIn self.entry.end result }
+        ensures noted { NotedRead self.entry.end result }
     {
         let [number, bytes @ ..] = self.bytes else {
             return Err(Refusal::Truncated);

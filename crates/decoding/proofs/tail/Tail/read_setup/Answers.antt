@@ -2,8 +2,7 @@ use Rattle.std.proofs.Common.{◌≡◌, ap, ◌∙◌, sym, rules}
 use Rattle.records.specs.declared.Setup.{Setup}
 use Rattle.records.specs.declared.SetupPlace.{SetupPlace}
 use Rattle.records.specs.Parsed.{Took, and_then}
-use Rattle.decoding.specs.Places.{setup_onto}
-use Rattle.decoding.proofs.Placed.{with_place, setup_placed}
+use Rattle.decoding.proofs.Placed.{setup_onto, with_place, setup_placed}
 use Rattle.decoding.proofs.tail.Tail.read_setup.Goals as goal
 
 pub returns-clause-value : goal.returns-clause-value
