@@ -11,7 +11,6 @@ use crate::setup::push_setup;
 use buffer::Buffer;
 use records::{Kind, Record, SetupPlace};
 
-pub mod front;
 mod number;
 mod setup;
 

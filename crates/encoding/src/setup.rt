@@ -6,9 +6,9 @@ ghost use Rattle.records.specs.Encode.{bottom_bytes, bad_line_bytes, level_bytes
 ghost use Rattle.records.specs.Items.{item_of, script_of};
 ghost use Rattle.records.specs.Numbers.{spelled};
 
-use crate::front::front;
 use crate::number::push_number;
 use buffer::Buffer;
+use list::front::front;
 use records::{BadLine, Bottom, Kind, Level, Record, Setup, SetupPlace};
 
 fn push_level(buffer: &mut Buffer, level: Level)

@@ -1,6 +1,6 @@
 //! Lists of two types of entries: lines with their bytes, and tickets.
 use list::bounded::BoundedList;
-use list::keyed::Keyed;
+use list::keyed::{Keyed, entry_of, unused_key};
 use std::test::Fail;
 
 #[derive(Clone, Copy, PartialEq, Eq, Debug)]
@@ -30,7 +30,7 @@ impl Keyed for Ticket {
 
 #[test]
 fn lines_leave_by_number(rt: HostRuntime) -> Result<(), Fail> {
-    let mut queue = BoundedList::new(rt.alloc(), 4)?;
+    let mut queue = BoundedList::<_, 4>::new(rt.alloc())?;
     let first = Queued {
         line: 7,
         bytes: *b"first line of 16",
@@ -55,13 +55,19 @@ fn lines_leave_by_number(rt: HostRuntime) -> Result<(), Fail> {
 
 #[test]
 fn a_full_list_hands_the_ticket_back(rt: HostRuntime) -> Result<(), Fail> {
-    let mut tickets = BoundedList::new(rt.alloc(), 2)?;
-    assert!(rt; tickets.push(Ticket(5)).is_ok());
-    assert!(rt; tickets.push(Ticket(6)).is_ok());
-    assert!(rt; tickets.push(Ticket(8)) == Err(Ticket(8)));
+    let mut tickets = BoundedList::<_, 2>::new(rt.alloc())?;
+    assert!(rt; unused_key(tickets.as_slice()) == Some(0));
+    assert!(rt; tickets.push(Ticket(1)).is_ok());
+    assert!(rt; !tickets.is_full());
+    assert!(rt; tickets.push(Ticket(0)).is_ok());
+    assert!(rt; unused_key(tickets.as_slice()) == Some(2));
+    assert!(rt; entry_of(tickets.as_slice(), 0) == Some(&Ticket(0)));
+    assert!(rt; entry_of(tickets.as_slice(), 2) == None);
+    assert!(rt; tickets.is_full());
+    assert!(rt; tickets.push(Ticket(2)) == Err(Ticket(2)));
     assert_eq!(rt; tickets.len(), 2);
-    assert!(rt; tickets.take(5) == Some((0, Ticket(5))));
-    assert!(rt; tickets.push(Ticket(8)).is_ok());
-    assert!(rt; tickets.as_slice() == [Ticket(6), Ticket(8)].as_slice());
+    assert!(rt; tickets.take(1) == Some((0, Ticket(1))));
+    assert!(rt; tickets.push(Ticket(2)).is_ok());
+    assert!(rt; tickets.as_slice() == [Ticket(0), Ticket(2)].as_slice());
     Ok(())
 }

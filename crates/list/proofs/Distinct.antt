@@ -1,47 +1,10 @@
 -- lists in which no two entries have the same key
-use Rattle.std.proofs.Common.{◌≡◌, ℕ, zero, suc, ◌<◌, ◌≤◌, Bool, true, false, cond, eqb, ltb, List, [], ◌∷◌, ◌++◌, length, get_or, is_some as option_is_some, Some, None, Option, sym, refl, ap, ◌∙◌, arith, eq-eqb, ne_eqb, eqb-true}
-use Rattle.list.specs.Entries.{entry_at}
-use Rattle.list.specs.Keyed.{place_of, entry_of, without, Distinct}
-use Rattle.std.proofs.lemmas.List.Folds.{find-append, find_at}
-use Rattle.std.specs.List.{position_or_len}
-use Rattle.std.proofs.lemmas.Bool.{ltb-true, ltb-false}
-use Rattle.std.proofs.lemmas.Option.{slice_get-get_or, slice_get_past}
-
--- an entry within the list
-pub entry_within : {X : Type 0} (xs : List X) (i : ℕ) (d : X) → i < length xs → entry_at i xs ≡ Some (get_or xs i d)
-entry_within [] i d h = absurd (omega arith)
-entry_within (x ∷ xs) zero d h = refl
-entry_within (x ∷ xs) (suc i) d h = entry_within xs i d (omega arith)
-
-pub entry_past : {X : Type 0} (xs : List X) (i : ℕ) → length xs ≤ i → entry_at i xs ≡ None
-entry_past [] i h = refl
-entry_past (x ∷ xs) zero h = absurd (omega arith)
-entry_past (x ∷ xs) (suc i) h = entry_past xs i (omega arith)
+use Rattle.std.proofs.Common.{◌≡◌, ℕ, zero, suc, ◌<◌, ◌≤◌, Bool, true, false, cond, eqb, List, [], ◌∷◌, ◌++◌, length, is_some as option_is_some, Some, None, Option, sym, refl, ap, ◌∙◌, arith, eq-eqb, ne_eqb, eqb-true}
+use Rattle.list.specs.Keyed.{entry_of, without, Distinct}
+use Rattle.std.proofs.lemmas.List.Folds.{find-append}
+use Rattle.std.specs.List.{slice_get}
 
 module _ {X : Type 0} (key : X → ℕ) where
-  -- the entry at the place where the key was found
-  pub found_entry : (sought : ℕ) (xs : List X) (i : ℕ) (d : X) → place_of key sought xs ≡ Some i → entry_of key sought xs ≡ Some (get_or xs i d)
-  found_entry sought xs i d e = go (ltb n (length xs)) refl e
-    where
-      n : ℕ
-      n = position_or_len (λ x. eqb (key x) sought) xs
-
-      go : (b : Bool) → ltb n (length xs) ≡ b → cond b (Some n) None ≡ Some i → entry_of key sought xs ≡ Some (get_or xs i d)
-      go true t e =
-          let same : n ≡ i = cc in
-          find_at (λ x. eqb (key x) sought) xs ∙ slice_get-get_or xs n d (ltb-true n (length xs) t) ∙ ap (λ k. Some (get_or xs k d)) same
-      go false t e = absurd (let z : ◌≡◌ {A = ℕ} 0 1 = cc in omega arith)
-
-  pub missed_entry : (sought : ℕ) (xs : List X) → place_of key sought xs ≡ None → entry_of key sought xs ≡ None
-  missed_entry sought xs e = go (ltb n (length xs)) refl e
-    where
-      n : ℕ
-      n = position_or_len (λ x. eqb (key x) sought) xs
-
-      go : (b : Bool) → ltb n (length xs) ≡ b → cond b (Some n) None ≡ None → entry_of key sought xs ≡ None
-      go true t e = absurd (let z : ◌≡◌ {A = ℕ} 0 1 = cc in omega arith)
-      go false t e = find_at (λ x. eqb (key x) sought) xs ∙ slice_get_past xs n (ltb-false n (length xs) t)
-
   -- behind entries without its key an entry is found
   pub push_found : (xs : List X) (y : X) → entry_of key (key y) xs ≡ None → entry_of key (key y) (xs ++ (y ∷ [])) ≡ Some y
   push_found xs y e = find-append (λ x. eqb (key x) (key y)) xs (y ∷ []) ∙ (rw e (rw (eq-eqb (key y) (key y) refl) refl))
@@ -72,8 +35,8 @@ module _ {X : Type 0} (key : X → ℕ) where
   both_none x true t e = absurd (let z : ◌≡◌ {A = ℕ} 0 1 = cc in omega arith)
   both_none x false t e = e
 
-  not_first : (x y : X) (k : ℕ) (t : Option X) → cond (eqb (key x) k) (Some x) t ≡ None → (k ≡ key x → ⊥)
-  not_first x y k t e z = let w : eqb (key x) k ≡ true = eq-eqb (key x) k (sym z) in let v : ◌≡◌ {A = Option X} (Some x) None = sym (ap (λ b. cond b (Some x) t) w) ∙ e in let u : ◌≡◌ {A = ℕ} 0 1 = cc in omega arith
+  not_first : (x : X) (k : ℕ) (t : Option X) → cond (eqb (key x) k) (Some x) t ≡ None → (k ≡ key x → ⊥)
+  not_first x k t e z = let w : eqb (key x) k ≡ true = eq-eqb (key x) k (sym z) in let v : ◌≡◌ {A = Option X} (Some x) None = sym (ap (λ b. cond b (Some x) t) w) ∙ e in let u : ◌≡◌ {A = ℕ} 0 1 = cc in omega arith
 
   still_missing_step : (x : X) (k : ℕ) (b : Bool) (xs rest : List X) → cond (eqb (key x) k) (Some x) (entry_of key k xs) ≡ None → (entry_of key k xs ≡ None → entry_of key k rest ≡ None) → entry_of key k (cond b xs (x ∷ rest)) ≡ None
   still_missing_step x k true xs rest e h = both_none x (eqb (key x) k) (entry_of key k xs) e
@@ -94,7 +57,7 @@ module _ {X : Type 0} (key : X → ℕ) where
   pub distinct_push : (xs : List X) (y : X) → Distinct key xs → entry_of key (key y) xs ≡ None → Distinct key (xs ++ (y ∷ []))
   distinct_push [] y d e = (refl, tt)
   distinct_push (x ∷ xs) y d e =
-      let other : key x ≡ key y → ⊥ = (λ z. not_first x y (key y) (entry_of key (key y) xs) e (sym z)) in
+      let other : key x ≡ key y → ⊥ = (λ z. not_first x (key y) (entry_of key (key y) xs) e (sym z)) in
       (push_other xs y (key x) other ∙ d.0, distinct_push xs y d.1 (both_none x (eqb (key x) (key y)) (entry_of key (key y) xs) e))
 
   at_step : (x o : X) (xs : List X) (b : Bool) → eqb (key x) (key o) ≡ b → entry_of key (key x) xs ≡ None → entry_of key (key o) xs ≡ Some o → cond b (Some x) (entry_of key (key o) xs) ≡ Some o
@@ -102,7 +65,7 @@ module _ {X : Type 0} (key : X → ℕ) where
   at_step x o xs false e h r = r
 
   -- an entry is found by its own key
-  pub found_by_key : (xs : List X) (i : ℕ) (o : X) → Distinct key xs → entry_at i xs ≡ Some o → entry_of key (key o) xs ≡ Some o
+  pub found_by_key : (xs : List X) (i : ℕ) (o : X) → Distinct key xs → slice_get xs i ≡ Some o → entry_of key (key o) xs ≡ Some o
   found_by_key [] i o d e = absurd (let z : ◌≡◌ {A = ℕ} 0 1 = cc in omega arith)
   found_by_key (x ∷ xs) zero o d e = let z : x ≡ o = cc in rw (eq-eqb (key x) (key o) (ap key z)) e
   found_by_key (x ∷ xs) (suc i) o d e = at_step x o xs (eqb (key x) (key o)) refl d.0 (found_by_key xs i o d.1 e)

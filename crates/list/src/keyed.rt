@@ -1,7 +1,7 @@
 //! Entries that have a key, and the one removal by key.
-ghost use Rattle.std.specs.Prelude.{◌≡◌, ℕ, ◌<◌, length, IfSome};
-ghost use Rattle.list.specs.Keyed.{entry_of, place_of, moved};
-ghost use Rattle.std.specs.Option.{option_map};
+ghost use Rattle.std.specs.Prelude.{◌≡◌, ℕ, ◌<◌, ◌≤◌, ◌-◌, ◌^◌, length, IfNone, IfSome, MatchOption};
+ghost use Rattle.list.specs.Keyed.{entry_of, place_of, moved, UsedBelow, LowestUnused};
+ghost use Rattle.std.specs.Option.{option_copied};
 
 /// An entry that a number tells from others.
 pub trait Keyed {
@@ -33,9 +33,18 @@ pub fn find<T: Keyed>(entries: &[T], sought: u32) -> Option<usize>
 
 /// The first entry that has the key, or nothing where none has it.
 pub fn entry_of<T: Keyed>(entries: &[T], sought: u32) -> Option<&T>
-    ensures { option_map (λ x. x.now) result ≡ entry_of T.key sought entries.now }
+    ensures { option_copied result ≡ entry_of T.key sought entries.now }
 {
     entries.iter().find(|entry| entry.key_of() == sought)
+}
+
+/// The lowest number that is the key of no entry, or nothing where all numbers of 32 bits but the highest are keys: then there
+/// are at least as many entries.
+pub fn unused_key<T: Keyed>(entries: &[T]) -> Option<u32>
+    ensures value { MatchOption result (UsedBelow T.key (2 ^ 32 - 1) entries.now) (λ n. LowestUnused T.key n entries.now) }
+    ensures many { IfNone result (2 ^ 32 - 1 ≤ length entries.now) }
+{
+    (0..u32::MAX).find(|key| entry_of(entries, *key).is_none())
 }
 
 /// Moves the first entry that has the key behind all others, which keep their order, and answers the place where it

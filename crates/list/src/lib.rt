@@ -2,4 +2,5 @@
 #![tactic(auto)]
 
 pub mod bounded;
+pub mod front;
 pub mod keyed;

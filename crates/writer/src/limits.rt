@@ -5,7 +5,7 @@ ghost use Rattle.records.specs.Encode.{bottom_in_limits, bad_line_in_limits, bad
 ghost use Rattle.records.specs.Items.{item_of, script_of};
 
 use counts::is_count;
-use encoding::front::front;
+use list::front::front;
 use records::bytes::{all_within, all_zero};
 use records::{BadLine, Bottom, Level, Record, Setup, SetupPlace};
 
