@@ -7,7 +7,7 @@ use Rattle.memory.specs.declared.replies.Answer.{Answer}
 use Rattle.memory.specs.declared.replies.Fault.{Fault}
 use Rattle.memory.specs.declared.replies.Reply.{Reply}
 
--- the facts by which a memory is known
+-- the facts by which a memory is known; contents and bad lines are told, and kept by each call, of numbers that are no line too
 pub record Facts : Type 0 where
   -- how many lines it has
   pub lines : ℕ
@@ -49,7 +49,7 @@ pub record Fixed (s t : Facts) : Type 0 where
 abbrev pub ContentsStay : Facts → Facts → Type 0
 ContentsStay s t = (line : ℕ) → t.contents line ≡ s.contents line
 
--- a ticket that was not open is open now and has its reply due, and no other ticket is touched
+-- a ticket that was not open is open now and has its reply due, no other ticket is touched, and what is owed rises by at most the pace
 pub record Opened (s : Facts) (ticket : ℕ) (reply : Reply) (t : Facts) : Type 0 where
   pub fresh : s.due ticket ≡ None
   pub opened : t.due ticket ≡ Some reply
@@ -110,7 +110,7 @@ abbrev pub Shown : Option Reply → Answer → List ℕ → List ℕ → Type 0
 Shown None a before after = ⊥
 Shown (Some reply) a before after = (a.kind ≡ kind_of reply) × (after ≡ place_after reply before)
 
--- a step that answers an open ticket, which is then no longer open
+-- a step that answers an open ticket, which is then no longer open; what is owed falls
 pub record Answered (s : Facts) (before : List ℕ) (a : Answer) (t : Facts) (after : List ℕ) : Type 0 where
   pub fixed : Fixed s t
   pub contents_stay : ContentsStay s t

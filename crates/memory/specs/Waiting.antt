@@ -1,10 +1,44 @@
-use Rattle.std.specs.Prelude.{◌≡◌, ℕ, ◌≤◌, None}
-use Rattle.memory.specs.Meaning.{Facts, Fixed, ContentsStay, Open}
+use Rattle.std.specs.Prelude.{◌≡◌, ◌≢◌, ℕ, ◌+◌, ◌<◌, ◌≤◌, List, Some, None, Ok, Err, Option, Result}
+use Rattle.memory.specs.Meaning.{Facts, Fixed, ContentsStay, Open, Refused}
+use Rattle.memory.specs.Replies.{read_due, kind_of, place_after}
+use Rattle.memory.specs.declared.refusal.Refusal.{Refusal}
+use Rattle.memory.specs.declared.replies.Answer.{Answer}
+use Rattle.memory.specs.declared.replies.Kind.{Kind}
 
--- a number of steps and nothing else: no contents change, what is still open is due what it was due, and nothing is open
--- if the steps were as many as were owed
+-- by what a step of a kind of memory may do, one state comes from another by so many steps
+pub data Made {S : Type 0} (steps : S → List ℕ → Option Answer → S → List ℕ → Type 0) : ℕ → S → S → Type 0 where
+  none : {s : S} → Made steps 0 s s
+  more : {n : ℕ} {s t u : S} {before after : List ℕ} {r : Option Answer} → Made steps n s t → steps t before r u after → Made steps (n + 1) s u
+
+-- what holds after a number of steps: no contents change, what is still open is due what it was due, no more is owed, and nothing is open if the steps were as many as were owed
 pub record Stepped (s : Facts) (count : ℕ) (t : Facts) : Type 0 where
   pub fixed : Fixed s t
   pub contents_stay : ContentsStay s t
   pub due_stays : (u : ℕ) → Open t u → t.due u ≡ s.due u
+  pub not_raised : t.owed ≤ s.owed
   pub all_answered : s.owed ≤ count → (u : ℕ) → t.due u ≡ None
+
+-- the calls that reading a line in steps makes: the read, and, if it is taken, steps up to the one that answers it, or as many as are allowed
+module _ {S : Type 0} (reads : S → ℕ → Result ℕ Refusal → S → Type 0) (steps : S → List ℕ → Option Answer → S → List ℕ → Type 0) where
+  abbrev pub ReadThenSteps : S → ℕ → ℕ → Result (Option Kind) Refusal → S → Type 0
+  ReadThenSteps s line most (Err refusal) t = reads s line (Err refusal) t
+  ReadThenSteps s line most (Ok None) t = (ticket : ℕ) × (taken : S) × reads s line (Ok ticket) taken × Made steps most taken t
+  ReadThenSteps s line most (Ok (Some kind)) t =
+      (ticket : ℕ) × (taken : S) × (then : S) × (n : ℕ) × (before : List ℕ) × (after : List ℕ) × reads s line (Ok ticket) taken × Made steps n taken then × (n < most) × steps then before (Some (record { ticket = ticket; kind = kind })) t after
+
+-- a read of a line was taken under a ticket, and steps were made after it: no contents change, what else is still open is due what it was due, and what is owed rises by at most the pace
+pub record Awaiting (s : Facts) (line ticket : ℕ) (t : Facts) : Type 0 where
+  pub inside : line < s.lines
+  pub fresh : s.due ticket ≡ None
+  pub fixed : Fixed s t
+  pub contents_stay : ContentsStay s t
+  pub others_stay : (u : ℕ) → u ≢ ticket → Open t u → t.due u ≡ s.due u
+  pub raised : t.owed ≤ s.owed + s.pace
+
+-- what reading a line in steps comes to: the read is refused; or it is answered, with what the line held when it was taken or with its fault; or it is still open, and more steps were owed for it than were allowed
+abbrev pub ReadInSteps : Facts → ℕ → ℕ → List ℕ → Result (Option Kind) Refusal → Facts → List ℕ → Type 0
+ReadInSteps s line most before (Err refusal) t after = Refused s line refusal t × (after ≡ before)
+ReadInSteps s line most before (Ok (Some kind)) t after =
+    (ticket : ℕ) × Awaiting s line ticket t × (t.due ticket ≡ None) × (kind ≡ kind_of (read_due (s.bad line) (s.contents line))) × (after ≡ place_after (read_due (s.bad line) (s.contents line)) before)
+ReadInSteps s line most before (Ok None) t after =
+    (ticket : ℕ) × Awaiting s line ticket t × (t.due ticket ≡ Some (read_due (s.bad line) (s.contents line))) × (most < s.owed + s.pace) × (after ≡ before)

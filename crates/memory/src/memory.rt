@@ -16,13 +16,16 @@ use crate::state::State;
 /// before, what is given and answered, and the state after. The laws say that, from a sound state, such a move leads to a
 /// sound state and is what the same call means of any memory.
 pub trait Memory: State {
-    // The states that a memory of this kind can be in.
+    // What holds of a memory of this kind from its making on.
     ghost sound: { Self → Type 0 };
 
+    // A read: the state before it, the line, what is answered, and the state after it.
     ghost reads: { Self → ℕ → Result ℕ Refusal → Self → Type 0 };
 
+    // A write: the state before it, the line, the mask and the new bytes, what is answered, and the state after it.
     ghost writes: { Self → ℕ → ℕ → List ℕ → Result ℕ Refusal → Self → Type 0 };
 
+    // A step: the state and the place before it, what is answered, and the state and the place after it.
     ghost steps: { Self → List ℕ → Option Answer → Self → List ℕ → Type 0 };
 
     /// How many lines there are.
@@ -41,11 +44,15 @@ pub trait Memory: State {
     fn step(&mut self, place: &mut [u8; 16]) -> Option<Answer>
         ensures { steps self.old place.old result self.new place.new };
 
+    // The facts are those of a memory.
     ghost well: { (s : Self) → sound s → Well (facts Self.State s) };
 
+    // A read leads to a sound state, and means what a read of any memory means.
     ghost reading: { (s t : Self) (line : ℕ) (r : Result ℕ Refusal) → sound s → reads s line r t → sound t × ReadMeans (facts Self.State s) line r (facts Self.State t) };
 
+    // And so does a write.
     ghost writing: { (s t : Self) (line mask : ℕ) (new : List ℕ) (r : Result ℕ Refusal) → sound s → writes s line mask new r t → sound t × WriteMeans (facts Self.State s) line mask new r (facts Self.State t) };
 
+    // And so does a step.
     ghost stepping: { (s t : Self) (before after : List ℕ) (r : Option Answer) → sound s → steps s before r t after → sound t × StepMeans (facts Self.State s) before r (facts Self.State t) after };
 }
