@@ -1,5 +1,5 @@
 -- a memory on a backing store does what a memory means, whatever its kind owes
-use Rattle.std.proofs.Common.{◌≡◌, ℕ, zero, suc, ◌+◌, ◌<◌, ◌≤◌, true, List, [], ◌∷◌, ◌++◌, length, is_some, Some, None, Ok, Err, Option, Result, refl, ap, arith, eq-eqb}
+use Rattle.std.proofs.Common.{◌≡◌, ℕ, zero, suc, ◌+◌, ◌<◌, ◌≤◌, true, List, [], ◌∷◌, ◌++◌, length, is_some, Some, None, Ok, Err, Option, Result, refl, ap, ◌∙◌, arith, eq-eqb}
 use Rattle.backing.specs.Backing.{ticket_of, request_of, due_of, request_at, TicketsDiffer, with_request, without_request, with_image, Reads, Writes, Answers}
 use Rattle.backing.specs.declared.backing.Backing.{Backing}
 use Rattle.backing.specs.declared.request.Request.{Request}
@@ -15,6 +15,7 @@ use Rattle.memory.specs.declared.refusal.Refusal.{Refusal}
 use Rattle.memory.specs.declared.refusal.Refusal.TheVariants.{NoLine, Busy}
 use Rattle.memory.specs.declared.replies.Answer.{Answer}
 use Rattle.memory.specs.declared.replies.Reply.{Reply}
+use Rattle.std.proofs.lemmas.List.{length_push}
 use Rattle.std.specs.List.{slice_get}
 use Rattle.std.specs.Option.{option_map}
 
@@ -76,9 +77,8 @@ answered s request owed owed_then pace place differ due less = record {
   lowered = less;
 }
 
-one_more : (requests : List Request) (request : Request) → length (requests ++ (request ∷ [])) ≡ suc (length requests)
-one_more [] request = refl
-one_more (first ∷ requests) request = ap suc (one_more requests request)
+one : (n : ℕ) → n + 1 ≡ suc n
+one n = omega arith
 
 -- a request stands at each place within the list
 there : (requests : List Request) (i : ℕ) → i < length requests → slice_get requests i ≡ None → ⊥
@@ -105,7 +105,7 @@ module _ {room : ℕ} {Timer : Type 0} (owed : Timer → ℕ → ℕ) (pace : Ti
 
   module _ (limit : ℕ) (some : 1 ≤ limit) (raises : (c : Timer) (n : ℕ) → owed c (suc n) ≤ owed c n + pace c) (s t : Backing room) (c d : Timer) where
     more : (request : Request) → owed c (length (s.requests ++ (request ∷ []))) ≤ owed c (length s.requests) + pace c
-    more request = rw (one_more s.requests request) (raises c (length s.requests))
+    more request = rw (length_push s.requests request ∙ one (length s.requests)) (raises c (length s.requests))
 
     -- a request that is refused
     no_line : (line : ℕ) → (lines_of s.image ≤ line) × (t ≡ s) → d ≡ c → TicketsDiffer s → TicketsDiffer t × Refused (timed s c) line NoLine (timed t d)

@@ -10,7 +10,8 @@ use memory::state::State;
 use std::alloc::{AllocFailed, Global};
 use timing::clock::Clock;
 
-/// A memory that has at most 4 requests open, and answers the oldest after as many steps as its latency.
+/// A memory that has at most 4 requests open, and answers the oldest each time that it has made as many steps with a request
+/// open as its latency.
 #[derive(Drop)]
 pub struct Ordered<'a> {
     backing: Backing<'a, 4>,

@@ -5,9 +5,10 @@ ghost use Rattle.decoding.specs.Places.{script_onto, bottom_onto, bad_lines_onto
 ghost use Rattle.records.specs.Parsed.{parsed, parsed_as};
 
 use counts::is_count;
-use records::bytes::{all_within, all_zero};
+use records::bytes::all_within;
 use records::number::read_number;
 use records::{BadLine, Bottom, Level, Refusal, Rule};
+use slices::all_zero;
 
 // A number between two limits. Where they are a type's own or less, callers narrow it by `as`, which is proved to lose
 // nothing; `TryFrom` would add a refusal that cannot come.

@@ -8,8 +8,8 @@ ghost use Rattle.records.specs.Numbers.{spelled};
 
 use crate::number::push_number;
 use buffer::Buffer;
-use list::front::front;
 use records::{BadLine, Bottom, Kind, Level, Record, Setup, SetupPlace};
+use slices::front;
 
 fn push_level(buffer: &mut Buffer, level: Level)
     ensures { buffer.new ≡ kept (buffer.old ++ level_bytes level) }

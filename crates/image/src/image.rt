@@ -4,9 +4,9 @@ ghost use Rattle.image.specs.Image.{counted, lines_of, fault_of, read_reply, wri
 
 use crate::bad_line::BadLine;
 use line::laying::{lay_at, line_at};
-use list::front::front;
 use list::keyed::entry_of;
 use memory::replies::{Fault, Reply};
+use slices::front;
 use std::alloc::{AllocFailed, Global};
 
 /// Bytes that a caller lent, seen as lines of 16 bytes each, at most 4,096 of them. Bytes behind the last line are

@@ -2,5 +2,4 @@
 #![tactic(auto)]
 
 pub mod bounded;
-pub mod front;
 pub mod keyed;

@@ -18,13 +18,13 @@ pub record Stepped (s : Facts) (count : ℕ) (t : Facts) : Type 0 where
   pub not_raised : t.owed ≤ s.owed
   pub all_answered : s.owed ≤ count → (u : ℕ) → t.due u ≡ None
 
--- the calls that reading a line in steps makes: the read, and, if it is taken, steps up to the one that answers it, or as many as are allowed
+-- the calls that reading a line in steps makes: the read, and, if it is taken, steps up to the one that answers it, or as many as are allowed; the place is lent to that one alone
 module _ {S : Type 0} (reads : S → ℕ → Result ℕ Refusal → S → Type 0) (steps : S → List ℕ → Option Answer → S → List ℕ → Type 0) where
-  abbrev pub ReadThenSteps : S → ℕ → ℕ → Result (Option Kind) Refusal → S → Type 0
-  ReadThenSteps s line most (Err refusal) t = reads s line (Err refusal) t
-  ReadThenSteps s line most (Ok None) t = (ticket : ℕ) × (taken : S) × reads s line (Ok ticket) taken × Made steps most taken t
-  ReadThenSteps s line most (Ok (Some kind)) t =
-      (ticket : ℕ) × (taken : S) × (then : S) × (n : ℕ) × (before : List ℕ) × (after : List ℕ) × reads s line (Ok ticket) taken × Made steps n taken then × (n < most) × steps then before (Some (record { ticket = ticket; kind = kind })) t after
+  abbrev pub ReadThenSteps : S → ℕ → ℕ → List ℕ → Result (Option Kind) Refusal → S → List ℕ → Type 0
+  ReadThenSteps s line most before (Err refusal) t after = reads s line (Err refusal) t × (after ≡ before)
+  ReadThenSteps s line most before (Ok None) t after = (ticket : ℕ) × (taken : S) × reads s line (Ok ticket) taken × Made steps most taken t × (after ≡ before)
+  ReadThenSteps s line most before (Ok (Some kind)) t after =
+      (ticket : ℕ) × (taken : S) × (then : S) × (n : ℕ) × reads s line (Ok ticket) taken × Made steps n taken then × (n < most) × steps then before (Some (record { ticket = ticket; kind = kind })) t after
 
 -- a read of a line was taken under a ticket, and steps were made after it: no contents change, what else is still open is due what it was due, and what is owed rises by at most the pace
 pub record Awaiting (s : Facts) (line ticket : ℕ) (t : Facts) : Type 0 where

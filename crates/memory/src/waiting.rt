@@ -26,7 +26,7 @@ pub fn read_in_steps<M: Memory>(
     most: u32,
     place: &mut [u8; 16],
 ) -> Result<Option<Kind>, Refusal>
-    ensures steps { ReadThenSteps M.reads M.steps memory.old line most result memory.new }
+    ensures steps { ReadThenSteps M.reads M.steps memory.old line most place.old result memory.new place.new }
     ensures meaning { M.Memory.sound memory.old → M.Memory.sound memory.new × ReadInSteps (facts M.State memory.old) line most place.old result (facts M.State memory.new) place.new }
 {
     let ticket = memory.read(line)?;

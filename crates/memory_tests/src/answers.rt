@@ -4,8 +4,8 @@ ghost use Rattle.std.specs.Prelude.{◌≡◌, Some};
 
 use memory::replies::{Answer, Fault, Kind};
 
-/// A line was read under this ticket.
-pub fn read(ticket: u32) -> Option<Answer>
+// A line was read under this ticket.
+pub(crate) fn read(ticket: u32) -> Option<Answer>
     ensures { result ≡ Some (record { ticket = ticket; kind = Read }) }
 {
     Some(Answer {
@@ -14,8 +14,8 @@ pub fn read(ticket: u32) -> Option<Answer>
     })
 }
 
-/// A line was written under this ticket.
-pub fn written(ticket: u32) -> Option<Answer>
+// A line was written under this ticket.
+pub(crate) fn written(ticket: u32) -> Option<Answer>
     ensures { result ≡ Some (record { ticket = ticket; kind = Written }) }
 {
     Some(Answer {
@@ -24,8 +24,8 @@ pub fn written(ticket: u32) -> Option<Answer>
     })
 }
 
-/// The request under this ticket came upon a bad line.
-pub fn failed(ticket: u32, fault: Fault) -> Option<Answer>
+// The request under this ticket came upon a bad line.
+pub(crate) fn failed(ticket: u32, fault: Fault) -> Option<Answer>
     ensures { result ≡ Some (record { ticket = ticket; kind = Failed fault }) }
 {
     Some(Answer {

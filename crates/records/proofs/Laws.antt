@@ -17,7 +17,8 @@ use Rattle.records.specs.Parsed.{Parsed, Took, Refuses, and_then}
 use Rattle.records.specs.Numbered.{rule_number}
 use Rattle.records.specs.Numbers.{number, spelled, within, number_within}
 use Rattle.records.specs.Items.{Item, setup, load, store, pass, note}
-use Rattle.records.specs.Decode.{plain, zero_byte, script, bottom, bad_line, bad_lines, side, rule_of, rule, level, upper, levels, setup_of, setup_fields, load_fields, store_fields, pass_fields, printable, text, note_fields, fields, decode}
+use Rattle.slices.specs.Zeros.{all_zero}
+use Rattle.records.specs.Decode.{plain, script, bottom, bad_line, bad_lines, side, rule_of, rule, level, upper, levels, setup_of, setup_fields, load_fields, store_fields, pass_fields, printable, text, note_fields, fields, decode}
 use Rattle.records.specs.Encode.{bottom_bytes, bad_line_bytes, level_bytes, levels_bytes, encode, bottom_in_limits, bad_line_in_limits, bad_lines_in_limits, level_in_limits, upper_in_limits, in_limits, is_setup}
 use Rattle.records.proofs.Spelled.{Bytes, bytes_after, took_as, never, number_spelled, number_back}
 
@@ -141,15 +142,15 @@ failed : {X : Type 0} (b : Bool) (x y : X) (m r : List ℕ) (q : Refusal) → co
 failed true x y m r q e = absurd (never e)
 failed false x y m r q e = (refl, e)
 
-pub script_was : (n : ℕ) (bs xs rest : List ℕ) → script n bs ≡ Took xs rest → (bs ≡ xs ++ rest) × (length xs ≡ n) × (list_all zero_byte xs ≡ false)
+pub script_was : (n : ℕ) (bs xs rest : List ℕ) → script n bs ≡ Took xs rest → (bs ≡ xs ++ rest) × (length xs ≡ n) × (all_zero xs ≡ false)
 script_was n bs xs rest e =
-    let s = came (plain n bs) (λ bytes rest. cond (list_all zero_byte bytes) (Refuses Limit) (Took bytes rest)) xs rest e in
-    let t = failed (list_all zero_byte s.0) s.0 xs s.1 rest Limit s.3 in
+    let s = came (plain n bs) (λ bytes rest. cond (all_zero bytes) (Refuses Limit) (Took bytes rest)) xs rest e in
+    let t = failed (all_zero s.0) s.0 xs s.1 rest Limit s.3 in
     let p = plain_was n bs s.0 s.1 s.2 in
-    took_as (λ ys r. (bs ≡ ys ++ r) × (length ys ≡ n) × (list_all zero_byte ys ≡ false)) t.1 (p.0, p.1, t.0)
+    took_as (λ ys r. (bs ≡ ys ++ r) × (length ys ≡ n) × (all_zero ys ≡ false)) t.1 (p.0, p.1, t.0)
 
-script_forth : (xs rest : List ℕ) (n : ℕ) → length xs ≡ n → list_all zero_byte xs ≡ false → script n (xs ++ rest) ≡ Took xs rest
-script_forth xs rest n h z = ap (λ p. and_then p (λ bytes rest. cond (list_all zero_byte bytes) (Refuses Limit) (Took bytes rest))) (plain_forth xs rest n h) ∙ rw z
+script_forth : (xs rest : List ℕ) (n : ℕ) → length xs ≡ n → all_zero xs ≡ false → script n (xs ++ rest) ≡ Took xs rest
+script_forth xs rest n h z = ap (λ p. and_then p (λ bytes rest. cond (all_zero bytes) (Refuses Limit) (Took bytes rest))) (plain_forth xs rest n h) ∙ rw z
 
 -- a number that is 1 or 2
 one_or_two : (n : ℕ) → within 1 2 n ≡ true → eqb n 1 ≡ false → n ≡ 2
@@ -179,8 +180,8 @@ bottom_back bs h y rest e =
         let w = script_was n m2 c.0 c.1 c.2 in
         took_as (λ z r. (bs ≡ bottom_bytes z.0 z.1 ++ r) × (bottom_in_limits z.0 z.1 ≡ true)) c.3 (
           join (spelled 2) (spelled n ++ c.0) c.1 (i1 ∙ ap (λ k. spelled k ++ m1) two) (join (spelled n) c.0 c.1 i2 w.0),
-          and_from (within 1 64 n) (eqb (length c.0) n && not (list_all zero_byte c.0)) f2
-              (and_from (eqb (length c.0) n) (not (list_all zero_byte c.0)) (eq-eqb (length c.0) n w.1) (not_from_false (list_all zero_byte c.0) w.2)),
+          and_from (within 1 64 n) (eqb (length c.0) n && not (all_zero c.0)) f2
+              (and_from (eqb (length c.0) n) (not (all_zero c.0)) (eq-eqb (length c.0) n w.1) (not_from_false (all_zero c.0) w.2)),
         )
 
 bottom_forth : Forth bottom (λ b. bottom_bytes b.0 b.1) (λ b. bottom_in_limits b.0 b.1)
@@ -191,11 +192,11 @@ bottom_forth (Ordered n, xs) rest h =
     ∙ forth_last (limited 1 64 (omega arith)) n p.0 rest (bottom_after 1)
     ∙ ap (λ ys. Took (Ordered n, ys) rest) (sym none)
 bottom_forth (Scripted n, xs) rest h =
-    let p = and_parts (within 1 64 n) (eqb (length xs) n && not (list_all zero_byte xs)) h in
-    let q = and_parts (eqb (length xs) n) (not (list_all zero_byte xs)) p.1 in
+    let p = and_parts (within 1 64 n) (eqb (length xs) n && not (all_zero xs)) h in
+    let q = and_parts (eqb (length xs) n) (not (all_zero xs)) p.1 in
     forth_then (limited 1 2 (omega arith)) 2 refl (spelled n ++ xs) rest (λ kind rest. and_then (number_within 1 64 rest) (bottom_after kind))
     ∙ forth_then (limited 1 64 (omega arith)) n p.0 xs rest (bottom_after 2)
-    ∙ ap (λ r. and_then r (λ bytes rest. Took (Scripted n, bytes) rest)) (script_forth xs rest n (eqb-true (length xs) n q.0) (not-true (list_all zero_byte xs) q.1))
+    ∙ ap (λ r. and_then r (λ bytes rest. Took (Scripted n, bytes) rest)) (script_forth xs rest n (eqb-true (length xs) n q.0) (not-true (all_zero xs) q.1))
 
 abbrev bottoms : Codec (Bottom × List ℕ)
 bottoms = record { read = bottom; write = λ b. bottom_bytes b.0 b.1; ok = λ b. bottom_in_limits b.0 b.1; back = bottom_back; forth = bottom_forth }

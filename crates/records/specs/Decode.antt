@@ -8,6 +8,7 @@ use Rattle.records.specs.declared.Bottom.{Bottom}
 use Rattle.records.specs.declared.Bottom.TheVariants.{Ordered, Scripted}
 use Rattle.records.specs.declared.BadLine.{BadLine}
 use Rattle.counts.specs.Counts.{is_count}
+use Rattle.slices.specs.Zeros.{all_zero}
 use Rattle.records.specs.Items.{Item, setup, load, store, pass, note}
 use Rattle.records.specs.Numbers.{number, number_within, within}
 use Rattle.records.specs.Parsed.{Parsed, Took, Refuses, and_then}
@@ -16,13 +17,9 @@ use Rattle.records.specs.Parsed.{Parsed, Took, Refuses, and_then}
 abbrev pub plain : ℕ → List ℕ → Parsed (List ℕ)
 plain n bs = if nat_le n (length bs) then Took (take n bs) (drop n bs) else Refuses Truncated
 
--- a byte that is 0
-abbrev pub zero_byte : ℕ → Bool
-zero_byte b = b == 0
-
 -- so many bytes, not all of them 0
 abbrev pub script : ℕ → List ℕ → Parsed (List ℕ)
-script n bs = and_then (plain n bs) (λ bytes rest. if list_all zero_byte bytes then Refuses Limit else Took bytes rest)
+script n bs = and_then (plain n bs) (λ bytes rest. if all_zero bytes then Refuses Limit else Took bytes rest)
 
 -- the memory at the bottom, by 1 and a latency or by 2 and a script
 abbrev pub bottom : List ℕ → Parsed (Bottom × List ℕ)

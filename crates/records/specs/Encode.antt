@@ -8,7 +8,8 @@ use Rattle.counts.specs.Counts.{is_count}
 use Rattle.records.specs.Items.{Item, setup, load, store, pass, note}
 use Rattle.records.specs.Numbered.{rule_number}
 use Rattle.records.specs.Numbers.{spelled, within}
-use Rattle.records.specs.Decode.{zero_byte, printable}
+use Rattle.records.specs.Decode.{printable}
+use Rattle.slices.specs.Zeros.{all_zero}
 
 -- the memory at the bottom: 1 and its latency, or 2, the length of its script and the script
 abbrev pub bottom_bytes : Bottom → List ℕ → List ℕ
@@ -39,7 +40,7 @@ encode (note bytes) = 4 ∷ (spelled (length bytes) ++ bytes)
 -- whether a setup's memory is one that a trace can name, with its script
 abbrev pub bottom_in_limits : Bottom → List ℕ → Bool
 bottom_in_limits (Ordered latency) script = within 1 64 latency && length script == 0
-bottom_in_limits (Scripted n) script = within 1 64 n && (length script == n && not (list_all zero_byte script))
+bottom_in_limits (Scripted n) script = within 1 64 n && (length script == n && not (all_zero script))
 
 -- whether a bad line and its cause are within their limits
 abbrev pub bad_line_in_limits : BadLine → Bool

@@ -1,4 +1,3 @@
-ghost use Rattle.records.specs.Decode.{zero_byte};
 ghost use Rattle.records.specs.Numbers.{within};
 ghost use Rattle.std.specs.List.{list_all};
 ghost use Rattle.std.specs.Prelude.{◌≡◌};
@@ -9,11 +8,4 @@ pub fn all_within(bytes: &[u8], low: u8, high: u8) -> bool
     ensures { result ≡ list_all (within low high) bytes.now }
 {
     bytes.iter().all(|byte| (low..=high).contains(byte))
-}
-
-/// Whether every byte is 0.
-pub fn all_zero(bytes: &[u8]) -> bool
-    ensures { result ≡ list_all zero_byte bytes.now }
-{
-    bytes.iter().all(|byte| *byte == 0)
 }

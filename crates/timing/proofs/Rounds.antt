@@ -6,7 +6,7 @@ use Rattle.std.proofs.Math.Seq.{drop-cons, take-suc}
 use Rattle.std.proofs.lemmas.Bool.{ltb-true, ltb-false}
 use Rattle.std.proofs.lemmas.List.{append_assoc, take-append-drop, append-nil, drop_all, take_all, length-append, length-take, length-drop}
 use Rattle.std.proofs.lemmas.List.Folds.{list_all-append}
-use Rattle.timing.specs.Counted.{never_answers}
+use Rattle.slices.specs.Zeros.{all_zero}
 use Rattle.timing.specs.Script.{next_byte, at_after, answered_by, script_answers, ahead, steps_to_answer, script_owed, script_pace, ScriptSteps}
 use Rattle.timing.specs.declared.script.Script.{Script}
 
@@ -17,7 +17,7 @@ steps_within (zero ∷ bytes) = let h = steps_within bytes in omega arith
 steps_within (suc k ∷ bytes) = omega arith
 
 -- more bytes behind those that answer change nothing
-steps_front : (bytes more : List ℕ) → never_answers bytes ≡ false → steps_to_answer (bytes ++ more) ≡ steps_to_answer bytes
+steps_front : (bytes more : List ℕ) → all_zero bytes ≡ false → steps_to_answer (bytes ++ more) ≡ steps_to_answer bytes
 steps_front [] more h = absurd (let z : ◌≡◌ {A = Bool} true false = h in let y : ◌≡◌ {A = ℕ} 0 1 = cc in omega arith)
 steps_front (zero ∷ bytes) more h = ap suc (steps_front bytes more h)
 steps_front (suc k ∷ bytes) more h = refl
@@ -26,11 +26,11 @@ some_steps : (byte : ℕ) (bytes : List ℕ) → 1 ≤ steps_to_answer (byte ∷
 some_steps zero bytes = omega arith
 some_steps (suc k) bytes = omega arith
 
--- the order of two parts does not matter to whether they answer
-never_swapped : (front back : List ℕ) → never_answers (front ++ back) ≡ false → never_answers (back ++ front) ≡ false
-never_swapped front back h =
+-- the order of two parts does not matter to whether all is zeros
+zeros_swapped : (front back : List ℕ) → all_zero (front ++ back) ≡ false → all_zero (back ++ front) ≡ false
+zeros_swapped front back h =
     list_all-append (λ byte. byte == 0) back front
-    ∙ swap (never_answers front) (never_answers back) (sym (list_all-append (λ byte. byte == 0) front back) ∙ h)
+    ∙ swap (all_zero front) (all_zero back) (sym (list_all-append (λ byte. byte == 0) front back) ∙ h)
   where
     swap : (a b : Bool) → (a && b) ≡ false → (b && a) ≡ false
     swap true true e = e
@@ -87,8 +87,8 @@ module _ (c : Script) where
   least : 1 ≤ steps_to_answer (ahead c)
   least = rw now (some_steps (next_byte c) rest)
 
-  answers_ahead : never_answers (ahead c) ≡ false
-  answers_ahead = never_swapped (take c.at bytes) (drop c.at bytes) (ap never_answers (take-append-drop c.at bytes) ∙ c.answers)
+  answers_ahead : all_zero (ahead c) ≡ false
+  answers_ahead = zeros_swapped (take c.at bytes) (drop c.at bytes) (ap all_zero (take-append-drop c.at bytes) ∙ c.answers)
 
 pub script_paced : (c : Script) → 1 ≤ script_pace c
 script_paced c = let w = c.within in omega arith
@@ -104,7 +104,7 @@ script_raises c (suc n) = grind arith
 nearer : (c d : Script) → d.bytes ≡ c.bytes → d.at ≡ at_after c → next_byte c ≡ 0 → suc (steps_to_answer (ahead d)) ≡ steps_to_answer (ahead c)
 nearer c d same moved none =
     let first : ahead c ≡ 0 ∷ rest c = now c ∙ ap (λ b. b ∷ rest c) none in
-    let some : never_answers (rest c) ≡ false = sym (ap never_answers first) ∙ answers_ahead c in
+    let some : all_zero (rest c) ≡ false = sym (ap all_zero first) ∙ answers_ahead c in
     ap (λ bs. suc (steps_to_answer bs)) (then c d same moved) ∙ ap suc (steps_front (rest c) (next_byte c ∷ []) some) ∙ sym (ap steps_to_answer first)
 
 module _ (c d : Script) (same : d.bytes ≡ c.bytes) (moved : d.at ≡ at_after c) where

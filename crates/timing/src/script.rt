@@ -1,8 +1,9 @@
 //! The script of a memory that answers as it says.
 ghost use Rattle.std.specs.Prelude.{◌≡◌, ◌<◌, false, length, vec_items};
-ghost use Rattle.timing.specs.Counted.{never_answers, counted_script};
+ghost use Rattle.slices.specs.Zeros.{all_zero};
+ghost use Rattle.timing.specs.Counted.{counted_script};
 
-use list::front::front;
+use slices::{all_zero, front};
 use std::alloc::{AllocError, Global};
 
 /// Bytes that are used one in each step, and from the first again after the last.
@@ -11,14 +12,7 @@ pub struct Script {
     bytes: Vec<u8>,
     at: usize,
     ghost within: { at < length (vec_items bytes) },
-    ghost answers: { never_answers (vec_items bytes) ≡ false },
-}
-
-// Whether a script never answers: it is empty, or all its bytes are 0.
-fn never_answers(bytes: &[u8]) -> bool
-    ensures { result ≡ never_answers bytes.now }
-{
-    bytes.iter().all(|byte| *byte == 0)
+    ghost answers: { all_zero (vec_items bytes) ≡ false },
 }
 
 impl Script {
@@ -31,7 +25,7 @@ impl Script {
         ensures at { IfOk result (λ s. s.at ≡ 0) }
     {
         let first = front(bytes, 64);
-        let counted: &[u8] = if never_answers(first) { &[1] } else { first };
+        let counted: &[u8] = if all_zero(first) { &[1] } else { first };
         let bytes = Vec::from_slice(heap, counted)?;
         Ok(Script { bytes, at: 0 })
     }

@@ -5,9 +5,9 @@ ghost use Rattle.records.specs.Encode.{bottom_in_limits, bad_line_in_limits, bad
 ghost use Rattle.records.specs.Items.{item_of, script_of};
 
 use counts::is_count;
-use list::front::front;
-use records::bytes::{all_within, all_zero};
+use records::bytes::all_within;
 use records::{BadLine, Bottom, Level, Record, Setup, SetupPlace};
+use slices::{all_zero, front};
 
 fn level_in_limits(level: Level) -> bool
     ensures { result ≡ level_in_limits level }

@@ -15,8 +15,6 @@ pub returns : goal.returns
 returns g c =
     let xs = c.args.entries.now in
     let key = g.T.Keyed.key in
-    let both =
-    lowest key xs 4294967295 c.find.result
-    (first_from_Range _ _ _ c.find.result (λ n. entry_of key n xs ≡ None) (λ n. is_some (entry_of key n xs) ≡ true) c.find.ensures.ran
-    (λ x q k. search (rules, tests)) (λ x q k. search (rules, tests))) in
+    let found = first_from_Range _ _ _ c.find.result (λ n. entry_of key n xs ≡ None) (λ n. is_some (entry_of key n xs) ≡ true) c.find.ensures.ran (λ x q k. search (rules, tests)) (λ x q k. search (rules, tests)) in
+    let both = lowest key xs 4294967295 c.find.result found in
     record { value = both.0; many = both.1 }
