@@ -11,7 +11,7 @@ use Rattle.std.proofs.lemmas.Bool.{le-leb, ltb-true, ltb-false}
 pub whole_line : (bytes : List ℕ) (line : ℕ) → 16 * line + 16 ≤ length bytes → length (bytes_of bytes line) ≡ 16
 whole_line bytes line h = grind (arith, length-take {A = ℕ}, length-drop {A = ℕ})
 
--- bytes that lie before a place do not show what comes after it
+-- bytes that lie before an offset do not show what comes after it
 before : (xs ys : List ℕ) (n : ℕ) → n + 16 ≤ length xs → take 16 (drop n (xs ++ ys)) ≡ take 16 (drop n xs)
 before xs ys n h = ap (take 16) (drop-append-le n xs ys (omega arith)) ∙ take-append-le 16 (drop n xs) ys (simp length-drop (omega arith))
 

@@ -14,13 +14,13 @@ no_high_bit mask i small high =
     ap (λ n. eqb (n % 2) 1) (div-eq_of_lt below)
 
 -- bit i of a value's mask is 1 exactly where byte i is one of the value's
-pub value_mask_bits : (place size i : ℕ) → bit (value_mask place size) i ≡ covers place size i
-value_mask_bits place size i =
-    grind (arith, nat_tests, pow_pos, bit_at_cat_low (2 ^ size - 1) place 0 i, bit_at_cat_high (2 ^ size - 1) place 0 i, bit_at-zero, bit_at_ones, bit_at_ones_above)
+pub value_mask_bits : (offset size i : ℕ) → bit (value_mask offset size) i ≡ covers offset size i
+value_mask_bits offset size i =
+    grind (arith, nat_tests, pow_pos, bit_at_cat_low (2 ^ size - 1) offset 0 i, bit_at_cat_high (2 ^ size - 1) offset 0 i, bit_at-zero, bit_at_ones, bit_at_ones_above)
 
 -- as many ones as size, by a shift to the right, and then to the left
-pub shifted_mask : (place size : ℕ) → place + size ≤ 16 → (65535 / 2 ^ (16 - size) * 2 ^ place) % 65536 ≡ value_mask place size
-shifted_mask place size h =
+pub shifted_mask : (offset size : ℕ) → offset + size ≤ 16 → (65535 / 2 ^ (16 - size) * 2 ^ offset) % 65536 ≡ value_mask offset size
+shifted_mask offset size h =
     let all : 16 - (16 - size) ≡ size = omega arith in
     let right : 65535 / 2 ^ (16 - size) ≡ 2 ^ size - 1 = ones_shr 16 (16 - size) (omega arith) ∙ ap (λ n. 2 ^ n - 1) all in
-    ap (λ n. (n * 2 ^ place) % 65536) right ∙ shl_exact size place 16 (ones_lt size) (omega arith)
+    ap (λ n. (n * 2 ^ offset) % 65536) right ∙ shl_exact size offset 16 (ones_lt size) (omega arith)

@@ -27,7 +27,7 @@ number_low (suc n) v h =
     let rest : number_of (low_bytes n (v / 256)) ≡ v / 256 = number_low n (v / 256) (shr_lt (8 * n) 8 (rw (← wide) h)) in
     omega (arith, rest)
 
--- the lowest bytes of a value, copied to their place in a line of zeros
+-- the lowest bytes of a value, copied to their offset in a line of zeros
 pub copied : (p s v : ℕ) (low part : List ℕ) → p + s ≤ 16 → s ≤ 8 → low ≡ low_bytes 8 v → part ≡ take (s - 0) low → put_mid p ((p + s) - p) (replicate 16 0) part ≡ value_bytes p s v
 copied p s v low part h small is copy =
     let same : s - 0 ≡ s = omega arith in

@@ -1,5 +1,5 @@
 use Rattle.std.specs.Prelude.{◌≡◌, ℕ, zero, suc, ◌+◌, ◌-◌, ◌*◌, ◌/◌, ◌%◌, ◌^◌, ◌<◌, Bool, ◌&&◌, List, [], ◌∷◌, ◌++◌, length, take, drop, replicate, nat_le, nat_lt}
-use Rattle.counts.specs.Counts.{is_count}
+use Rattle.line.specs.Counts.{is_count}
 use Rattle.line.specs.Laid.{laid}
 
 -- the sizes that a value may have, in bytes
@@ -20,24 +20,24 @@ abbrev pub number_of : List ℕ → ℕ
 number_of [] = 0
 number_of (byte ∷ bytes) = byte + 256 * number_of bytes
 
--- whether byte i of a line is one of the `size` bytes of a value at `place`
+-- whether byte i of a line is one of the `size` bytes of a value at `offset`
 abbrev pub covers : ℕ → ℕ → ℕ → Bool
-covers place size i = nat_le place i && nat_lt i (place + size)
+covers offset size i = nat_le offset i && nat_lt i (offset + size)
 
--- a mask of `size` ones from bit `place` up
+-- a mask of `size` ones from bit `offset` up
 abbrev pub value_mask : ℕ → ℕ → ℕ
-value_mask place size = (2 ^ size - 1) * 2 ^ place
+value_mask offset size = (2 ^ size - 1) * 2 ^ offset
 
--- a line of zeros but for the bytes of a value, which begin at `place`
+-- a line of zeros but for the bytes of a value, which begin at `offset`
 abbrev pub value_bytes : ℕ → ℕ → ℕ → List ℕ
-value_bytes place size value = replicate place 0 ++ (low_bytes size value ++ replicate (16 - (place + size)) 0)
+value_bytes offset size value = replicate offset 0 ++ (low_bytes size value ++ replicate (16 - (offset + size)) 0)
 
--- the value of the `size` bytes of a line from `place` up
+-- the value of the `size` bytes of a line from `offset` up
 abbrev pub value_in : ℕ → ℕ → List ℕ → ℕ
-value_in place size line = number_of (take size (drop place line))
+value_in offset size line = number_of (take size (drop offset line))
 
--- bytes for a value at `place`: a line that they are laid on under the value's mask holds the value, if the value has no
+-- bytes for a value at `offset`: a line that they are laid on under the value's mask holds the value, if the value has no
 -- more bytes than `size`
 abbrev pub Held : ℕ → ℕ → ℕ → List ℕ → Type 0
-Held place size value bytes =
-    (line : List ℕ) → length line ≡ 16 → value < 2 ^ (8 * size) → value_in place size (laid line (value_mask place size) bytes) ≡ value
+Held offset size value bytes =
+    (line : List ℕ) → length line ≡ 16 → value < 2 ^ (8 * size) → value_in offset size (laid line (value_mask offset size) bytes) ≡ value

@@ -11,8 +11,6 @@ pub fn bit(mask: u16, i: usize) -> bool
     i < 16 && (mask >> i) % 2 == 1
 }
 
-// Mask and bytes are two arguments, as a memory's `write` takes them.
-
 /// The line with byte i replaced by that of `new` exactly where bit i of the mask is 1.
 pub fn lay(line: [u8; 16], mask: u16, new: [u8; 16]) -> [u8; 16]
     ensures { result ≡ laid line mask new }

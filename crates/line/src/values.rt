@@ -1,8 +1,8 @@
-//! The line and the place that an address means, and the sizes that a value may have.
+//! The line of an address, its offset there, and the sizes that a value may have.
 ghost use Rattle.std.specs.Prelude.{◌≡◌, ◌/◌, ◌%◌};
 ghost use Rattle.line.specs.Values.{is_size};
 
-use counts::is_count;
+use crate::counts::is_count;
 
 /// The line that an address lies in.
 pub fn line_of(address: u32) -> u32
@@ -11,8 +11,8 @@ pub fn line_of(address: u32) -> u32
     address / 16
 }
 
-/// The place of an address in its line.
-pub fn place_of(address: u32) -> u8
+/// The offset of an address in its line.
+pub fn offset_of(address: u32) -> u8
     ensures { result ≡ address % 16 }
 {
     // below 16: `TryFrom` would add an error that cannot come

@@ -1,14 +1,14 @@
-use Rattle.std.specs.Prelude.{◌≡◌, find, position, ℕ, suc, ◌<◌, true, is_some, if◌then◌else◌, List, [], ◌∷◌, ◌++◌, Some, None, Option, ◌==◌}
+use Rattle.std.specs.Prelude.{◌≡◌, find, position, ℕ, suc, if◌then◌else◌, List, [], ◌∷◌, ◌++◌, Some, None, Option, ◌==◌}
 use Rattle.std.specs.Option.{option_map}
 
--- the place where the first entry that has the key sought stands, and that entry, if one has it
+-- the index of the first entry that has the key sought, and that entry, if one has it
 abbrev pub taken : {X : Type 0} → (X → ℕ) → ℕ → List X → Option (ℕ × X)
 taken key sought [] = None
 taken key sought (x ∷ xs) = if key x == sought then Some (0, x) else option_map (λ p. (suc p.0, p.1)) (taken key sought xs)
 
--- the place where the first entry that has the key sought stands, if one has it
-abbrev pub place_of : {X : Type 0} → (X → ℕ) → ℕ → List X → Option ℕ
-place_of key sought xs = position (λ x. key x == sought) xs
+-- the index of the first entry that has the key sought, if one has it
+abbrev pub index_of : {X : Type 0} → (X → ℕ) → ℕ → List X → Option ℕ
+index_of key sought xs = position (λ x. key x == sought) xs
 
 -- the first entry that has the key sought, if one has it
 abbrev pub entry_of : {X : Type 0} → (X → ℕ) → ℕ → List X → Option X
@@ -23,14 +23,6 @@ without key sought (x ∷ xs) = if key x == sought then xs else x ∷ without ke
 abbrev pub moved : {X : Type 0} → (X → ℕ) → ℕ → List X → List X
 moved key sought [] = []
 moved key sought (x ∷ xs) = if key x == sought then xs ++ (x ∷ []) else x ∷ moved key sought xs
-
--- each number below one is the key of some entry
-abbrev pub UsedBelow : {X : Type 0} → (X → ℕ) → ℕ → List X → Type 0
-UsedBelow key n xs = (k : ℕ) → k < n → is_some (entry_of key k xs) ≡ true
-
--- a number is the lowest that is the key of no entry
-abbrev pub LowestUnused : {X : Type 0} → (X → ℕ) → ℕ → List X → Type 0
-LowestUnused key n xs = (entry_of key n xs ≡ None) × UsedBelow key n xs
 
 -- no two entries have the same key
 abbrev pub Distinct : {X : Type 0} → (X → ℕ) → List X → Type 0

@@ -1,2 +1,2 @@
-pub mod Entries
 pub mod Keyed
+pub mod Zeros

@@ -1,9 +1,11 @@
 //! Entries that have a key, and the one removal by key.
-ghost use Rattle.std.specs.Prelude.{◌≡◌, ℕ, ◌<◌, ◌≤◌, ◌-◌, ◌^◌, length, IfNone, IfSome, MatchOption};
-ghost use Rattle.list.specs.Keyed.{entry_of, place_of, moved, UsedBelow, LowestUnused};
+ghost use Rattle.std.specs.Prelude.{◌≡◌, ℕ, ◌<◌, length, IfSome};
+ghost use Rattle.list.specs.Keyed.{entry_of, index_of, moved, taken, without};
 ghost use Rattle.std.specs.Option.{option_copied};
 
-/// An entry that a number tells from others.
+use arrayvec::ArrayVec;
+
+/// An entry that has a number as its key.
 pub trait Keyed {
     ghost key: { Self → ℕ };
 
@@ -21,11 +23,9 @@ impl Keyed for u8 {
     }
 }
 
-// Entries and key are two arguments: the removal is one function over a slice, for lists of every kind.
-
-/// The place of the first entry that has the key, or nothing where none has it.
+/// The index of the first entry that has the key, or nothing where none has it.
 pub fn find<T: Keyed>(entries: &[T], sought: u32) -> Option<usize>
-    ensures place { result ≡ place_of T.key sought entries.now }
+    ensures index { result ≡ index_of T.key sought entries.now }
     ensures within { IfSome result (λ i. i < length entries.now) }
 {
     entries.iter().position(|entry| entry.key_of() == sought)
@@ -38,23 +38,28 @@ pub fn entry_of<T: Keyed>(entries: &[T], sought: u32) -> Option<&T>
     entries.iter().find(|entry| entry.key_of() == sought)
 }
 
-/// The lowest number that is the key of no entry, or nothing where all numbers of 32 bits but the highest are keys: then there
-/// are at least as many entries.
-pub fn unused_key<T: Keyed>(entries: &[T]) -> Option<u32>
-    ensures value { MatchOption result (UsedBelow T.key (2 ^ 32 - 1) entries.now) (λ n. LowestUnused T.key n entries.now) }
-    ensures many { IfNone result (2 ^ 32 - 1 ≤ length entries.now) }
-{
-    (0..u32::MAX).find(|key| entry_of(entries, *key).is_none())
-}
-
-/// Moves the first entry that has the key behind all others, which keep their order, and answers the place where it
+/// Moves the first entry that has the key behind all others, which keep their order, and answers the index where it
 /// stood. Where none has the key, nothing is answered and nothing moves.
 pub fn take_out<T: Keyed>(entries: &mut [T], sought: u32) -> Option<usize>
-    ensures place { result ≡ place_of T.key sought entries.old }
+    ensures index { result ≡ index_of T.key sought entries.old }
     ensures within { IfSome result (λ i. i < length entries.old) }
     ensures after { entries.new ≡ moved T.key sought entries.old }
 {
     let i = find(entries, sought)?;
     entries[i..].rotate_left(1);
     Some(i)
+}
+
+/// Takes the first entry that has the key out of a list, with the index where it stood; the others keep their order.
+/// Where none has the key, nothing is answered and nothing changes.
+pub fn take<T: Keyed + Default + Drop, const N: usize>(
+    list: &mut ArrayVec<T, N>,
+    sought: u32,
+) -> Option<(usize, T)>
+    ensures value { result ≡ taken T.key sought list.old.items }
+    ensures after { list.new.items ≡ without T.key sought list.old.items }
+{
+    let index = take_out(list.as_mut_slice(), sought)?;
+    let entry = list.pop()?;
+    Some((index, entry))
 }

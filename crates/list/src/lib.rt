@@ -1,5 +1,5 @@
-//! Ordered lists of bounded length, oldest entry first, and removal by key for entries of every type that has one.
+//! Entries that have a key, how one is found and taken out, and what is asked of slices.
 #![tactic(auto)]
 
-pub mod bounded;
 pub mod keyed;
+pub mod slices;

@@ -1,4 +1,6 @@
 pub mod Gather
+pub mod Laws
+pub mod Limits
 pub mod Meaning
 pub mod Replies
-pub mod Waiting
+pub mod Tickets

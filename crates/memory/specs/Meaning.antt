@@ -1,6 +1,8 @@
 use Rattle.std.specs.Prelude.{◌≡◌, ℕ, ◌+◌, ◌<◌, ◌≤◌, true, if◌then◌else◌, List, length, is_some, Some, None, Ok, Err, Option, Result, ◌==◌, ◌≢◌}
 use Rattle.line.specs.Laid.{laid}
-use Rattle.memory.specs.Replies.{read_due, write_due, written_on, kind_of, place_after}
+use Rattle.line.specs.Size.{line_size}
+use Rattle.memory.specs.Limits.{most_lines}
+use Rattle.memory.specs.Replies.{read_due, write_due, written_on, status_of, delivered}
 use Rattle.memory.specs.declared.refusal.Refusal.{Refusal}
 use Rattle.memory.specs.declared.refusal.Refusal.TheVariants.{NoLine, Busy}
 use Rattle.memory.specs.declared.replies.Answer.{Answer}
@@ -28,8 +30,8 @@ Open f ticket = is_some (f.due ticket) ≡ true
 
 -- what is true of a memory at all times
 pub record Well (f : Facts) : Type 0 where
-  pub few : f.lines ≤ 4096
-  pub whole : (line : ℕ) → line < f.lines → length (f.contents line) ≡ 16
+  pub few : f.lines ≤ most_lines
+  pub whole : (line : ℕ) → line < f.lines → length (f.contents line) ≡ line_size
   pub paced : 1 ≤ f.pace
   -- while a ticket is open a step is owed
   pub owing : (ticket : ℕ) → Open f ticket → 1 ≤ f.owed
@@ -68,8 +70,8 @@ abbrev pub Refused : Facts → ℕ → Refusal → Facts → Type 0
 Refused s line NoLine t = (s.lines ≤ line) × Unchanged s t
 Refused s line Busy t = (line < s.lines) × ((ticket : ℕ) × Open s ticket) × Unchanged s t
 
--- a read is taken: its reply is the contents at this moment, or the line's fault
-pub record ReadTaken (s : Facts) (line ticket : ℕ) (t : Facts) : Type 0 where
+-- a read is accepted: its reply is the contents at this moment, or the line's fault
+pub record ReadAccepted (s : Facts) (line ticket : ℕ) (t : Facts) : Type 0 where
   pub inside : line < s.lines
   pub fixed : Fixed s t
   pub contents_stay : ContentsStay s t
@@ -77,15 +79,15 @@ pub record ReadTaken (s : Facts) (line ticket : ℕ) (t : Facts) : Type 0 where
 
 -- what a read means
 abbrev pub ReadMeans : Facts → ℕ → Result ℕ Refusal → Facts → Type 0
-ReadMeans s line (Ok ticket) t = ReadTaken s line ticket t
+ReadMeans s line (Ok ticket) t = ReadAccepted s line ticket t
 ReadMeans s line (Err refusal) t = Refused s line refusal t
 
 -- the contents after a write: a good line has the new bytes laid on, a bad one and all others stay
 abbrev pub written : Facts → ℕ → ℕ → List ℕ → ℕ → List ℕ
 written f line mask new k = if k == line then written_on (f.bad line) (f.contents line) (laid (f.contents line) mask new) else f.contents k
 
--- a write is taken: it is laid on the contents at this moment, and its reply is "done", or the line's fault
-pub record WriteTaken (s : Facts) (line mask : ℕ) (new : List ℕ) (ticket : ℕ) (t : Facts) : Type 0 where
+-- a write is accepted: it is laid on the contents at this moment, and its reply is "done", or the line's fault
+pub record WriteAccepted (s : Facts) (line mask : ℕ) (new : List ℕ) (ticket : ℕ) (t : Facts) : Type 0 where
   pub inside : line < s.lines
   pub fixed : Fixed s t
   pub laid_on : (k : ℕ) → t.contents k ≡ written s line mask new k
@@ -93,7 +95,7 @@ pub record WriteTaken (s : Facts) (line mask : ℕ) (new : List ℕ) (ticket : �
 
 -- what a write means
 abbrev pub WriteMeans : Facts → ℕ → ℕ → List ℕ → Result ℕ Refusal → Facts → Type 0
-WriteMeans s line mask new (Ok ticket) t = WriteTaken s line mask new ticket t
+WriteMeans s line mask new (Ok ticket) t = WriteAccepted s line mask new ticket t
 WriteMeans s line mask new (Err refusal) t = Refused s line refusal t
 
 -- a step that answers nothing: what is owed does not rise, and falls while a ticket is open
@@ -103,12 +105,12 @@ pub record Silent (s : Facts) (before : List ℕ) (t : Facts) (after : List ℕ)
   pub due_stays : (u : ℕ) → t.due u ≡ s.due u
   pub not_raised : t.owed ≤ s.owed
   pub lowered : (ticket : ℕ) → Open s ticket → t.owed < s.owed
-  pub place_stays : after ≡ before
+  pub buffer_stays : after ≡ before
 
--- the answer and the caller's place show the reply that was due; nothing is answered that was not due
+-- the answer and the caller's buffer show the reply that was due; nothing is answered that was not due
 abbrev pub Shown : Option Reply → Answer → List ℕ → List ℕ → Type 0
 Shown None a before after = ⊥
-Shown (Some reply) a before after = (a.kind ≡ kind_of reply) × (after ≡ place_after reply before)
+Shown (Some reply) a before after = (a.status ≡ status_of reply) × (after ≡ delivered reply before)
 
 -- a step that answers an open ticket, which is then no longer open; what is owed falls
 pub record Answered (s : Facts) (before : List ℕ) (a : Answer) (t : Facts) (after : List ℕ) : Type 0 where

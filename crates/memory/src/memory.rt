@@ -13,19 +13,16 @@ use crate::state::State;
 /// a step answers it.
 ///
 /// Each kind of memory says exactly what its calls do, by the relations `reads`, `writes` and `steps` between the state
-/// before, what is given and answered, and the state after. The laws say that, from a sound state, such a move leads to a
-/// sound state and is what the same call means of any memory.
+/// before, what is given and answered, and the state after. The laws say that each such move, between any two values of
+/// the type, is what the same call means of any memory: what has to hold of a state for that is kept by its type.
 pub trait Memory: State {
-    // What holds of a memory of this kind from its making on.
-    ghost sound: { Self → Type 0 };
-
     // A read: the state before it, the line, what is answered, and the state after it.
     ghost reads: { Self → ℕ → Result ℕ Refusal → Self → Type 0 };
 
     // A write: the state before it, the line, the mask and the new bytes, what is answered, and the state after it.
     ghost writes: { Self → ℕ → ℕ → List ℕ → Result ℕ Refusal → Self → Type 0 };
 
-    // A step: the state and the place before it, what is answered, and the state and the place after it.
+    // A step: the state and the buffer before it, what is answered, and the state and the buffer after it.
     ghost steps: { Self → List ℕ → Option Answer → Self → List ℕ → Type 0 };
 
     /// How many lines there are.
@@ -40,19 +37,19 @@ pub trait Memory: State {
     fn write(&mut self, line: u32, mask: u16, new: [u8; 16]) -> Result<u32, Refusal>
         ensures { writes self.old line mask new result self.new };
 
-    /// Goes on by one step, and may answer one open request. The bytes of a line that was read go into the place.
-    fn step(&mut self, place: &mut [u8; 16]) -> Option<Answer>
-        ensures { steps self.old place.old result self.new place.new };
+    /// Goes on by one step, and may answer one open request. The bytes of a line that was read go into the buffer.
+    fn step(&mut self, buffer: &mut [u8; 16]) -> Option<Answer>
+        ensures { steps self.old buffer.old result self.new buffer.new };
 
-    // The facts are those of a memory.
-    ghost well: { (s : Self) → sound s → Well (facts Self.State s) };
+    // What holds of every memory at all times.
+    ghost well: { (s : Self) → Well (facts Self.State s) };
 
-    // A read leads to a sound state, and means what a read of any memory means.
-    ghost reading: { (s t : Self) (line : ℕ) (r : Result ℕ Refusal) → sound s → reads s line r t → sound t × ReadMeans (facts Self.State s) line r (facts Self.State t) };
+    // A read means what a read of any memory means.
+    ghost reading: { (s t : Self) (line : ℕ) (r : Result ℕ Refusal) → reads s line r t → ReadMeans (facts Self.State s) line r (facts Self.State t) };
 
     // And so does a write.
-    ghost writing: { (s t : Self) (line mask : ℕ) (new : List ℕ) (r : Result ℕ Refusal) → sound s → writes s line mask new r t → sound t × WriteMeans (facts Self.State s) line mask new r (facts Self.State t) };
+    ghost writing: { (s t : Self) (line mask : ℕ) (new : List ℕ) (r : Result ℕ Refusal) → writes s line mask new r t → WriteMeans (facts Self.State s) line mask new r (facts Self.State t) };
 
     // And so does a step.
-    ghost stepping: { (s t : Self) (before after : List ℕ) (r : Option Answer) → sound s → steps s before r t after → sound t × StepMeans (facts Self.State s) before r (facts Self.State t) after };
+    ghost stepping: { (s t : Self) (before after : List ℕ) (r : Option Answer) → steps s before r t after → StepMeans (facts Self.State s) before r (facts Self.State t) after };
 }

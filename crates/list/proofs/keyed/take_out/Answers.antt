@@ -1,11 +1,11 @@
 use Rattle.std.proofs.Common.{sym, ◌∙◌, rules}
-use Rattle.list.proofs.Places.{goes, stays, turned}
+use Rattle.list.proofs.Removed.{goes, stays, turned}
 use Rattle.list.proofs.keyed.take_out.Goals as goal
 
 pub returns-in_err-i-clause-after : goal.returns-in_err-i-clause-after
-returns-in_err-i-clause-after g c = sym (stays g.T.Keyed.key c.args.sought c.args.entries.now (sym c.in_err-i.ensures.place)).2
+returns-in_err-i-clause-after g c = sym (stays g.T.Keyed.key c.args.sought c.args.entries.now (sym c.in_err-i.ensures.index)).2
 
 pub returns-clause-after : goal.returns-clause-after
 returns-clause-after g c =
     turned c.args.entries.now c.rotate_left.new.self c.in_ok-i.i (search rules)
-    ∙ sym (goes g.T.Keyed.key c.args.sought c.args.entries.now c.in_ok-i.i (sym c.in_ok-i.ensures.place)).4
+    ∙ sym (goes g.T.Keyed.key c.args.sought c.args.entries.now c.in_ok-i.i (sym c.in_ok-i.ensures.index)).4

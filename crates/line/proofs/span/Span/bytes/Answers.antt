@@ -9,7 +9,7 @@ returns-clause-value c =
     let s = c.args.self in
     let small : s.size ≤ 8 = grind (arith, nat_tests) in
     rw (c.from-from.ensures, c.from-count.ensures)
-    (copied s.place s.size c.args.value c.to_le_bytes.result c.copy_from_slice.new.self s.inside small (simp div-div-eq-div-mul c.to_le_bytes.ensures) (search rules))
+    (copied s.offset s.size c.args.value c.to_le_bytes.result c.copy_from_slice.new.self s.inside small (simp div-div-eq-div-mul c.to_le_bytes.ensures) (search rules))
 
 pub returns-clause-back : goal.returns-clause-back
-returns-clause-back c = let s = c.args.self in rw (returns-clause-value c) (λ line whole fits. laid_back s.place s.size c.args.value line s.inside whole fits)
+returns-clause-back c = let s = c.args.self in rw (returns-clause-value c) (λ line whole fits. laid_back s.offset s.size c.args.value line s.inside whole fits)

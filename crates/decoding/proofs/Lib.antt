@@ -1,3 +1,0 @@
-mod Filling
-mod Placed
-mod Taken

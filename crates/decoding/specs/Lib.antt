@@ -1,2 +1,0 @@
-pub mod Notes
-pub mod Places

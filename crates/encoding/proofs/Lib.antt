@@ -1,3 +1,0 @@
-pub mod Groups
-pub mod Appends
-pub mod Sizes

@@ -1,2 +1,0 @@
-pub mod Paces
-pub mod Pending

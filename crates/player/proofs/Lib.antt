@@ -1,3 +1,0 @@
-mod Short
-mod Lines
-mod Runs

@@ -1,2 +1,0 @@
-mod Next
-pub mod Runs

@@ -1,6 +1,0 @@
-use Rattle.std.proofs.Common.{rules}
-use Rattle.records.proofs.Numbers.{runs_off}
-use Rattle.records.proofs.number.read_number.Goals as goal
-
-pub returns-in_err-last-clause-value : goal.returns-in_err-last-clause-value
-returns-in_err-last-clause-value c = search (rules, runs_off)

@@ -1,3 +1,0 @@
-pub mod Orders
-pub mod Ranks
-pub mod Shapes
