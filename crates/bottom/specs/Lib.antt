@@ -1,0 +1,4 @@
+pub mod Ordered
+pub mod OrderedLaws
+pub mod Scripted
+pub mod ScriptedLaws
