@@ -1,0 +1,13 @@
+pub mod NumberRead
+pub mod NumberSpelled
+pub mod Laws
+pub mod Traces
+mod Filling
+mod FilledSetup
+mod ReadFrom
+mod Next
+pub mod Runs
+mod Groups
+mod Sizes
+mod Grown
+mod Fronts

@@ -1,0 +1,17 @@
+pub mod Limits
+pub mod Refusal
+pub mod Parsed
+pub mod Numbers
+pub mod Kinds
+pub mod Items
+pub mod Decode
+pub mod Encode
+pub mod Trace
+pub mod Notes
+pub mod Filled
+pub mod Reading
+pub mod ReadUpTo
+pub mod Reader
+pub mod Writing
+pub mod Writer
+pub mod Copied
