@@ -1,0 +1,7 @@
+pub mod Lines
+pub mod Memories
+pub mod Numbers
+pub mod Requests
+pub mod Row
+pub mod Rules
+pub mod Table
