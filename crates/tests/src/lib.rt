@@ -19,8 +19,6 @@ mod ordered;
 #[cfg(test)]
 mod refusals;
 #[cfg(test)]
-mod requests;
-#[cfg(test)]
 mod rules;
 #[cfg(test)]
 mod scripted;
