@@ -9,18 +9,6 @@ mod bottom_memories;
 mod copies;
 pub mod fetching;
 #[cfg(test)]
-mod lines;
-#[cfg(test)]
 mod listings;
-#[cfg(test)]
-mod lists;
-#[cfg(test)]
-mod ordered;
-#[cfg(test)]
-mod refusals;
-#[cfg(test)]
-mod rules;
-#[cfg(test)]
-mod scripted;
 pub mod victims;
 pub mod waiting;
