@@ -1,4 +1,5 @@
 pub mod Fifo
+pub mod Laws
 pub mod Lru
 pub mod Orders
 pub mod Rows

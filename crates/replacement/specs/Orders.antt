@@ -38,3 +38,7 @@ Chosen g set offered (Some w) = (set < g.sets) × (w < g.ways) × (bit offered w
 -- changes where there is no such set or way
 abbrev pub told : Geometry → (ℕ → List ℕ) → ℕ → ℕ → List ℕ → ℕ → List ℕ
 told g order set way new k = if nat_lt set g.sets && (nat_lt way g.ways && k == set) then new else order k
+
+-- and the rule stays just as it was
+abbrev pub AbsentKept : {Q : Type 0} → Geometry → ℕ → ℕ → Q → Q → Type 0
+AbsentKept g set way s t = (nat_lt set g.sets && nat_lt way g.ways) ≡ false → t ≡ s

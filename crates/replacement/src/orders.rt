@@ -1,6 +1,6 @@
 //! The orders of all sets, as the rules that move a way to the end keep them.
 ghost use Rattle.std.specs.Prelude.{◌≡◌, ℕ, ◌<◌, [], take, slice_index_or};
-ghost use Rattle.replacement.specs.Orders.{EachOnce, first_order, moved_to_end, first_offered, picked, Chosen, told};
+ghost use Rattle.replacement.specs.Orders.{EachOnce, first_order, moved_to_end, first_offered, picked, Chosen, told, AbsentKept};
 
 use crate::geometry::Geometry;
 use line::laying::bit;
@@ -57,6 +57,7 @@ impl Orders {
     pub(crate) fn move_to_end(&mut self, set: usize, way: usize)
         ensures geometry { self.new.geometry ≡ self.old.geometry }
         ensures order { (k : ℕ) → order_of self.new k ≡ told self.old.geometry (order_of self.old) set way (moved_to_end way (order_of self.old set)) k }
+        ensures absent { AbsentKept self.old.geometry set way self.old self.new }
     {
         let ways = self.geometry.ways;
         if way >= ways {

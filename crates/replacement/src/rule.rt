@@ -1,6 +1,6 @@
 //! What a replacement rule means.
 ghost use Rattle.std.specs.Prelude.{◌≡◌, ℕ, ◌<◌, List};
-ghost use Rattle.replacement.specs.Orders.{EachOnce, picked, Chosen, told};
+ghost use Rattle.replacement.specs.Orders.{EachOnce, picked, Chosen, told, AbsentKept};
 
 use crate::geometry::Geometry;
 
@@ -34,12 +34,14 @@ pub trait Replacement {
     /// Tells of a hit on a way. Nothing changes where there is no such set or way.
     fn used(&mut self, set: usize, way: usize)
         ensures geometry { geometry self.new ≡ geometry self.old }
-        ensures order { (k : ℕ) → order self.new k ≡ told (geometry self.old) (order self.old) set way (uses self.old set way) k };
+        ensures order { (k : ℕ) → order self.new k ≡ told (geometry self.old) (order self.old) set way (uses self.old set way) k }
+        ensures absent { AbsentKept (geometry self.old) set way self.old self.new };
 
     /// Tells that a way was filled. Nothing changes where there is no such set or way.
     fn filled(&mut self, set: usize, way: usize)
         ensures geometry { geometry self.new ≡ geometry self.old }
-        ensures order { (k : ℕ) → order self.new k ≡ told (geometry self.old) (order self.old) set way (fills self.old set way) k };
+        ensures order { (k : ℕ) → order self.new k ≡ told (geometry self.old) (order self.old) set way (fills self.old set way) k }
+        ensures absent { AbsentKept (geometry self.old) set way self.old self.new };
 
     // Each way of a set stands in its order exactly once.
     ghost once: { (s : Self) (set : ℕ) → set < (geometry s).sets → EachOnce (geometry s).ways (order s set) };
