@@ -1,0 +1,14 @@
+pub mod Asks
+pub mod Begins
+pub mod EndedRegisters
+pub mod Laws
+pub mod Lines
+pub mod MaskBits
+pub mod MoreTargets
+pub mod Open
+pub mod OpenTickets
+pub mod Pushed
+pub mod Receives
+pub mod Rows
+pub mod Sends
+pub mod Targets

@@ -1,0 +1,10 @@
+pub mod Facts
+pub mod Kept
+pub mod Limits
+pub mod Moves
+pub mod Props
+pub mod Registers
+pub mod Standing
+pub mod Steps
+pub mod Tables
+pub mod Ways
