@@ -20,7 +20,7 @@ pub enum Outcome {
     Standing(Standing),
 }
 
-// No clause says what is written here: the lines of a run are compared whole with those that are wanted.
+// What is written here is in no contract: the lines of a run are compared with those that are wanted.
 
 // Writes what a request is answered.
 fn write_reply<W: fmt::Write>(f: &mut fmt::Formatter<W>, reply: Reply) -> fmt::Result {

@@ -82,7 +82,7 @@ fn make<M: Memory + Drop, R: Replacement + Drop>(
 }
 
 /// Makes these calls on a new level, and prints what each answers.
-// No contract can say what is printed.
+// What is printed is in no contract: it is compared with what is wanted, line for line.
 pub fn run<M: Memory + Drop, R: Replacement + Drop>(
     rt: &impl Print,
     alloc: Global,

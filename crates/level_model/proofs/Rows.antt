@@ -116,21 +116,9 @@ way_for_is j ws n = ⊎_elim (λ e. absurd (n e)) (λ r. r.3) (way_for_at j ws)
 filled_not_empty : (held : CachedLine) → ◌≡◌ {A = Way} (Filled held) Empty → ⊥
 filled_not_empty held e = true≢false (sym (ap is_empty e))
 
-reserved_not_empty : (k : ℕ) → ◌≡◌ {A = Way} (Reserved k) Empty → ⊥
-reserved_not_empty k e = true≢false (sym (ap is_empty e))
-
 -- the way of a line holds that line, or is reserved for it
 pub way_for_filled : (j : ℕ) (ws : List Way) (held : CachedLine) → way_for j ws ≡ Filled held → held.line ≡ j
 way_for_filled j ws held e = eqb-true held.line j (sym (ap (is_for j) e) ∙ way_for_is j ws (λ z. filled_not_empty held (sym e ∙ z)))
-
-pub way_for_reserved : (j : ℕ) (ws : List Way) (k : ℕ) → way_for j ws ≡ Reserved k → k ≡ j
-way_for_reserved j ws k e = eqb-true k j (sym (ap (is_for j) e) ∙ way_for_is j ws (λ z. reserved_not_empty k (sym e ∙ z)))
-
--- a way is for one line at most
-pub is_for_unique : (j k : ℕ) (x : Way) → is_for j x ≡ true → is_for k x ≡ true → j ≡ k
-is_for_unique j k Empty e f = absurd (true≢false (sym e))
-is_for_unique j k (Reserved line) e f = sym (eqb-true line j e) ∙ eqb-true line k f
-is_for_unique j k (Filled held) e f = sym (eqb-true held.line j e) ∙ eqb-true held.line k f
 
 -- the first index that passes a test passes it
 position_some : {X : Type 0} (test : X → Bool) (xs : List X) (d : X) (w : ℕ) → position test xs ≡ Some w → (w < length xs) × (test (get_or xs w d) ≡ true)

@@ -32,7 +32,7 @@ pub const MOST_QUEUED: usize = 4;
 pub const MOST_OPEN: usize = 16;
 
 /// What becomes of a request that there is room for.
-#[derive(Clone, Copy, PartialEq, Eq, Debug)]
+#[derive(Clone, Copy, Debug)]
 enum Path {
     /// This way holds the line, and answers it.
     Hit(usize),

@@ -4,12 +4,7 @@ ghost use Rattle.level_model.specs.Limits.{most_ways};
 ghost use Rattle.level_model.specs.Ways.{empty_ways, is_empty, is_reserved, holds, is_for, row, way_at, holding, index_for, lowest_empty, unreserved, with_way};
 
 use list::slices::front;
-
-/// The most sets that a level has.
-pub(crate) const MOST_SETS: usize = 8;
-
-/// The most ways that a set has.
-pub(crate) const MOST_WAYS: usize = 8;
+use replacement::geometry::{MOST_SETS, MOST_WAYS};
 
 /// Whether the memory below holds the same bytes of a line.
 #[derive(Clone, Copy, PartialEq, Eq, Debug)]

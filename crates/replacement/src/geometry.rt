@@ -5,6 +5,12 @@ ghost use Rattle.std.specs.Prelude.{◌≡◌, ◌%◌, true};
 use crate::refusal::Refusal;
 use line::counts::is_count;
 
+/// The most sets of a geometry.
+pub const MOST_SETS: usize = 8;
+
+/// The most ways of a set.
+pub const MOST_WAYS: usize = 8;
+
 /// How many sets a cache has, and how many ways each set has: each 1, 2, 4 or 8, and no other number.
 #[derive(Clone, Copy)]
 pub struct Geometry {

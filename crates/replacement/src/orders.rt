@@ -2,14 +2,9 @@
 ghost use Rattle.std.specs.Prelude.{◌≡◌, ℕ, ◌<◌, [], take, slice_index_or};
 ghost use Rattle.replacement.specs.Orders.{EachOnce, first_order, moved_to_end, first_offered, picked, Chosen, told, AbsentKept};
 
-use crate::geometry::Geometry;
+use crate::geometry::{Geometry, MOST_SETS, MOST_WAYS};
 use line::laying::bit;
 use list::keyed::take_out;
-
-// The most sets and ways of a geometry.
-const MOST_SETS: usize = 8;
-
-const MOST_WAYS: usize = 8;
 
 // A row for each set. As many of its first bytes as there are ways are the set's order; those behind mean nothing.
 // Of fixed size, so that a rule takes no memory and making one cannot fail.
