@@ -1,5 +1,6 @@
 -- lists in which no two entries have the same key
 use Rattle.std.proofs.Common.{◌≡◌, ℕ, zero, suc, ◌<◌, ◌≤◌, Bool, true, false, cond, eqb, List, [], ◌∷◌, ◌++◌, length, is_some as option_is_some, Some, None, Option, sym, refl, ap, ◌∙◌, arith, eq-eqb, ne_eqb, eqb-true}
+use Rattle.list.proofs.Entries.{some_is}
 use Rattle.list.specs.Keyed.{entry_of, without, Distinct}
 use Rattle.std.proofs.lemmas.List.Folds.{find-append}
 use Rattle.std.specs.List.{slice_get}
@@ -79,15 +80,11 @@ module _ {X : Type 0} (key : X → ℕ) where
   shorter [] sought o e = absurd (let z : ◌≡◌ {A = ℕ} 0 1 = cc in omega arith)
   shorter (x ∷ xs) sought o e = shorter_step x o sought xs (eqb (key x) sought) e (shorter xs sought o)
 
-  is_some : (r : Option X) → option_is_some r ≡ true → (o : X) × (r ≡ Some o)
-  is_some None e = absurd (let z : ◌≡◌ {A = ℕ} 0 1 = cc in omega arith)
-  is_some (Some x) e = (x, refl)
-
   -- a list that has an entry for each key below n has n entries at least
   pub as_many : (n : ℕ) (xs : List X) → ((k : ℕ) → k < n → option_is_some (entry_of key k xs) ≡ true) → n ≤ length xs
   as_many zero xs h = omega arith
   as_many (suc n) xs h =
-      let o = is_some (entry_of key n xs) (h n (omega arith)) in
+      let o = some_is (entry_of key n xs) (h n (omega arith)) in
       let less = shorter xs n o.0 o.1 in
       let rest = as_many n (without key n xs) (λ k l. ap option_is_some (without_other xs k n (λ e. omega arith)) ∙ h k (omega arith)) in
       omega arith

@@ -23,6 +23,15 @@ impl Keyed for u8 {
     }
 }
 
+/// A number is its own key.
+impl Keyed for u32 {
+    ghost key = { λ n. n };
+
+    fn key_of(&self) -> u32 {
+        *self
+    }
+}
+
 /// The index of the first entry that has the key, or nothing where none has it.
 pub fn find<T: Keyed>(entries: &[T], sought: u32) -> Option<usize>
     ensures index { result ≡ index_of T.key sought entries.now }
