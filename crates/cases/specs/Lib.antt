@@ -2,6 +2,8 @@ pub mod Levels
 pub mod Lines
 pub mod Memories
 pub mod Numbers
+pub mod Ports
+pub mod Refused
 pub mod Requests
 pub mod Row
 pub mod Rules

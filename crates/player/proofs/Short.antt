@@ -7,9 +7,9 @@ use Rattle.trace.specs.Encode.{in_limits}
 use Rattle.trace.specs.Items.{Item, setup, load, store, pass, note}
 use Rattle.trace.specs.Numbers.{within}
 use Rattle.trace.specs.Refusal.{refusal_code}
-use Rattle.request.specs.declared.Refusal as request
-use Rattle.request.specs.declared.Refusal.TheVariants.{Size, Alignment, Range, Value}
-use Rattle.request.specs.Requests as requests
+use Rattle.port.specs.declared.request.Unlawful as request
+use Rattle.port.specs.declared.request.Unlawful.TheVariants.{Size, Alignment, Range, Value}
+use Rattle.port.specs.Requests as requests
 use Rattle.std.proofs.lemmas.Bool.{and_parts, leb-true}
 use Rattle.std.proofs.lemmas.Fmt.{length-decimal-le}
 use Rattle.std.proofs.lemmas.List.{append-nil, length-append}
@@ -38,7 +38,7 @@ code_small Limit = omega arith
 code_small Misplaced = omega arith
 code_small Room = omega arith
 
-request_code_small : (r : request.Refusal) → requests.refusal_code r < 2 ^ 64
+request_code_small : (r : request.Unlawful) → requests.unlawful_code r < 2 ^ 64
 request_code_small Size = omega arith
 request_code_small Alignment = omega arith
 request_code_small Range = omega arith
@@ -49,13 +49,13 @@ one_line line most h = omega (arith, ap (λ xs. length xs) (append-nil line))
 
 request_short : (index : ℕ) (a : requests.Verdict) → index < 2 ^ 64 → length (concat (request_lines index a)) ≤ 64
 request_short index (Ok done) h = omega arith
-request_short index (Err r) h = one_line (ended_line (refused_fields index (requests.refusal_code r))) 64 (omega (arith, number_line_short 88 index (requests.refusal_code r) h (request_code_small r)))
+request_short index (Err r) h = one_line (ended_line (refused_fields index (requests.unlawful_code r))) 64 (omega (arith, number_line_short 88 index (requests.unlawful_code r) h (request_code_small r)))
 
 -- what a record shows that is within its limits
 pub item_short : (memory index : ℕ) (item : Item) → index < 2 ^ 64 → in_limits item ≡ true → length (concat (item_lines memory index item)) ≤ 64
 item_short memory index (setup head script bad) h l = omega arith
-item_short memory index (load size address) h l = request_short index (requests.load_answer memory size address) h
-item_short memory index (store size address value) h l = request_short index (requests.store_answer memory size address value) h
+item_short memory index (load size address) h l = request_short index (requests.load_verdict memory size address) h
+item_short memory index (store size address value) h l = request_short index (requests.store_verdict memory size address value) h
 item_short memory index (pass steps) h l = omega arith
 item_short memory index (note text) h l =
     let p = and_parts (within 0 60 (length text)) (list_all printable text) l in

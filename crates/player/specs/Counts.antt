@@ -3,7 +3,7 @@ use Rattle.player.specs.declared.listing.Line.{Line}
 use Rattle.player.specs.Shown.{shown, ended_line, note_fields, refused_fields}
 use Rattle.player.specs.declared.count.Count.{Count}
 use Rattle.trace.specs.Items.{Item, setup, load, store, pass, note}
-use Rattle.request.specs.Requests as request
+use Rattle.port.specs.Requests as request
 
 -- a count goes up to the largest number of 64 bits, and stays there
 abbrev pub limited : ℕ → ℕ
@@ -21,13 +21,13 @@ shown_lines (Some line) = shown line ∷ []
 -- a request that is not lawful shows its index and the number of its refusal
 abbrev pub request_lines : ℕ → request.Verdict → List (List ℕ)
 request_lines index (Ok done) = []
-request_lines index (Err r) = ended_line (refused_fields index (request.refusal_code r)) ∷ []
+request_lines index (Err r) = ended_line (refused_fields index (request.unlawful_code r)) ∷ []
 
 -- what a record shows, in a memory of so many lines: a note its text, an unlawful request its refusal
 abbrev pub item_lines : ℕ → ℕ → Item → List (List ℕ)
 item_lines memory index (setup head script bad) = []
-item_lines memory index (load size address) = request_lines index (request.load_answer memory size address)
-item_lines memory index (store size address value) = request_lines index (request.store_answer memory size address value)
+item_lines memory index (load size address) = request_lines index (request.load_verdict memory size address)
+item_lines memory index (store size address value) = request_lines index (request.store_verdict memory size address value)
 item_lines memory index (pass steps) = []
 item_lines memory index (note text) = ended_line (note_fields text) ∷ []
 

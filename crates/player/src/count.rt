@@ -4,7 +4,7 @@ ghost use Rattle.trace.specs.Items.{item_of};
 ghost use Rattle.std.specs.Prelude.{◌≡◌};
 
 use crate::listing::Line;
-use request::{check_load, check_store};
+use port::request::{Unlawful, check_load, check_store};
 use trace::records::{Record, SetupBuffer};
 
 /// What a play has counted: the memory's lines, the records taken, and the steps asked for.
@@ -74,7 +74,7 @@ pub(crate) fn end_line<'a>(steps: u64) -> Line<'a>
 }
 
 // What a request shows: its refusal, if it is not lawful.
-fn answered<'a>(index: u64, answer: Result<(), request::Refusal>) -> Option<Line<'a>>
+fn answered<'a>(index: u64, answer: Result<(), Unlawful>) -> Option<Line<'a>>
     ensures { shown_lines result ≡ request_lines index answer }
 {
     let refusal = answer.err()?;

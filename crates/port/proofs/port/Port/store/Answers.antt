@@ -1,0 +1,7 @@
+use Rattle.port.proofs.Calls.{call_keeps}
+use Rattle.port.specs.declared.event.Event.TheVariants.{Store}
+use Rattle.port.proofs.port.Port.store.Goals as goal
+
+pub returns-clause-promise : goal.returns-clause-promise
+returns-clause-promise g c =
+    call_keeps g.M.State g.M.Memory (let m = g.met.M.Memory in record { well = m.well; reading = m.reading; writing = m.writing; stepping = m.stepping }) (Store c.args.size c.args.address c.args.value c.ask_store.result) c.args.self.now.below c.args.self.now.numbers c.ask_store.new.self.below c.ask_store.new.self.numbers c.ask_store.ensures

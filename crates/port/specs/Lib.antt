@@ -1,0 +1,10 @@
+pub mod Answers
+pub mod Events
+pub mod Limits
+pub mod Moves
+pub mod Numbers
+pub mod Port
+pub mod Promise
+pub mod Refusals
+pub mod Requests
+pub mod Run
