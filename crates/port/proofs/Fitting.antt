@@ -350,7 +350,7 @@ module _ (o : Facts) (ration : ℕ) (log : List Event) (f g : Facts) (n : Number
   come_fits = ap (with_come number) h.come_is ∙ go (eqb (length (come log)) most_out) refl
     where
       less : length (come log) < most_out
-      less = let l = fewer (come log) (out log) number counts.come_differ counts.differ counts.come_out was_out was_waiting in let m = out_many o ration log f n h in let k = h.few in omega arith
+      less = let l = fewer (come log) (out log) number counts.come_differ counts.come_out was_out was_waiting in let m = out_many o ration log f n h in let k = h.few in omega arith
 
       go : (b : Bool) → eqb (length (come log)) most_out ≡ b → cond b (come log) (come log ++ (number ∷ [])) ≡ come log ++ (number ∷ [])
       go false e = refl

@@ -1,9 +1,8 @@
 -- lists of entries and the lists of their numbers
 use Rattle.std.proofs.Common.{◌≡◌, ◌≢◌, ℕ, ◌<◌, ◌≤◌, Bool, true, false, cond, eqb, List, [], ◌∷◌, ◌++◌, length, map, is_some, Some, None, Option, sym, refl, ap, ◌∙◌, ⊎_elim, arith, eq-eqb, ne_eqb}
 use Rattle.std.proofs.lemmas.Bool.{cases_eq}
-use Rattle.std.specs.List.{slice_get}
 use Rattle.list.proofs.Distinct.{without_other, gone, shorter}
-use Rattle.list.proofs.Entries.{none_some, some_is}
+use Rattle.list.proofs.Entries.{some_is}
 use Rattle.list.specs.Keyed.{entry_of, without, altered, Distinct}
 use Rattle.port.specs.Promise.{has}
 
@@ -17,7 +16,7 @@ none_is None e = refl
 none_is (Some x) e = absurd (true_false e)
 
 -- numbers may be compared either way round
-pub eqb_swap : (a b : ℕ) → eqb a b ≡ eqb b a
+eqb_swap : (a b : ℕ) → eqb a b ≡ eqb b a
 eqb_swap a b =
     ⊎_elim
     (λ e. eq-eqb a b e ∙ sym (eq-eqb b a (sym e)))
@@ -57,11 +56,6 @@ module _ {X : Type 0} (key : X → ℕ) where
   has_map [] u = refl
   has_map (x ∷ xs) u = has_map_step x (eqb (key x) u) (entry_of (λ k. k) u (map key xs)) (entry_of key u xs) (has_map xs u)
 
-  -- the keys of entries that differ by them differ
-  pub distinct_map : (xs : List X) → Distinct key xs → Distinct (λ k. k) (map key xs)
-  distinct_map [] d = tt
-  distinct_map (x ∷ xs) d = (none_is (entry_of (λ k. k) (key x) (map key xs)) (has_map xs (key x) ∙ ap is_some d.0), distinct_map xs d.1)
-
 -- what a list has, with one more
 pub has_push : (numbers : List ℕ) (n u : ℕ) → has u (numbers ++ (n ∷ [])) ≡ cond (eqb u n) true (has u numbers)
 has_push [] n u = go (eqb n u) (eqb u n) (eqb_swap n u)
@@ -86,13 +80,8 @@ has_without numbers n u d =
     (λ ne. ap is_some (without_other (λ k. k) numbers u n ne) ∙ rw (ne_eqb u n ne) refl)
     (cases_eq u n)
 
--- a list has its first
-pub has_first : (numbers : List ℕ) (n : ℕ) → Some n ≡ slice_get numbers 0 → has n numbers ≡ true
-has_first [] n e = absurd (none_some n (sym e))
-has_first (x ∷ xs) n e = let z : n ≡ x = cc in rw (eq-eqb x n (sym z)) refl
-
 -- a list whose numbers another has all is no longer
-pub no_more : (few many : List ℕ) → Distinct (λ k. k) few → ((u : ℕ) → has u few ≡ true → has u many ≡ true) → length few ≤ length many
+no_more : (few many : List ℕ) → Distinct (λ k. k) few → ((u : ℕ) → has u few ≡ true → has u many ≡ true) → length few ≤ length many
 no_more [] many d h = omega arith
 no_more (x ∷ xs) many d h =
     let x_first : has x (x ∷ xs) ≡ true = rw (eq-eqb x x refl) refl in
@@ -104,8 +93,8 @@ no_more (x ∷ xs) many d h =
     omega arith
 
 -- a list with a number that another has not, whose numbers it has all, is longer
-pub fewer : (few many : List ℕ) (n : ℕ) → Distinct (λ k. k) few → Distinct (λ k. k) many → ((u : ℕ) → has u few ≡ true → has u many ≡ true) → has n many ≡ true → has n few ≡ false → length few < length many
-fewer few many n d d' h e f =
+pub fewer : (few many : List ℕ) (n : ℕ) → Distinct (λ k. k) few → ((u : ℕ) → has u few ≡ true → has u many ≡ true) → has n many ≡ true → has n few ≡ false → length few < length many
+fewer few many n d h e f =
     let o = some_is (entry_of (λ k. k) n many) e in
     let less = shorter (λ k. k) many n o.0 o.1 in
     let apart : (u : ℕ) → has u few ≡ true → u ≢ n = (λ u g z. true_false (sym g ∙ ap (λ k. has k few) z ∙ f)) in
@@ -116,8 +105,3 @@ fewer few many n d d' h e f =
 pub has_some : (numbers : List ℕ) (n : ℕ) → has n numbers ≡ true → 1 ≤ length numbers
 has_some [] n e = absurd (true_false (sym e))
 has_some (x ∷ xs) n e = omega arith
-
--- and one that is not empty has a number
-pub some_has : (numbers : List ℕ) → 1 ≤ length numbers → (n : ℕ) × (has n numbers ≡ true)
-some_has [] l = absurd (omega arith)
-some_has (x ∷ xs) l = (x, rw (eq-eqb x x refl) refl)

@@ -1,7 +1,8 @@
 //! Which loads and stores are lawful, and why another one is refused.
-ghost use Rattle.std.specs.Prelude.{◌≡◌, ◌↔◌, false, IsOk, Ok, Err, MatchResult};
+ghost use Rattle.std.specs.Prelude.{◌≡◌, ◌↔◌, false, IfErr, IsOk, Ok, Err, MatchResult};
 ghost use Rattle.line.specs.Values.{fits_line};
 ghost use Rattle.port.specs.Requests.{unlawful_code, load_verdict, store_verdict, LawfulLoad, LawfulStore, Spans};
+ghost use Rattle.port.specs.declared.request.Unlawful.TheVariants.{Alignment};
 
 use line::LINE_SIZE;
 use line::span::Span;
@@ -68,7 +69,8 @@ pub fn check_store(lines: u32, size: u8, address: u32, value: u64) -> Result<(),
 
 // Where the bytes of a lawful request lie. They begin at a multiple of their size, so one line has them all.
 fn span_of(size: u8, address: u32) -> Result<Span, Unlawful>
-    ensures { MatchResult result (λ span. Spans size address span) (λ why. fits_line address size ≡ false) }
+    ensures lies { MatchResult result (λ span. Spans size address span) (λ why. fits_line address size ≡ false) }
+    ensures refused { IfErr result (λ why. why ≡ Alignment) }
 {
     Span::new(address, size).ok_or(Unlawful::Alignment)
 }
