@@ -26,7 +26,10 @@ whole_line = 65535
 -- a rule was told of a way of a set, which gets this new order; if there is no such way, it stays as it was
 abbrev pub RuleTold : {Q : Type 0} → rule.Ghosts Q → ℕ → ℕ → List ℕ → Q → Q → Type 0
 RuleTold rk set way new p q =
-    (rk.geometry q ≡ rk.geometry p) × ((k : ℕ) → rk.order q k ≡ told (rk.geometry p) (rk.order p) set way new k) × AbsentKept (rk.geometry p) set way p q
+    (rk.geometry q ≡ rk.geometry p)
+    × ((k : ℕ) → rk.order q k ≡ told (rk.geometry p) (rk.order p) set way new k)
+    × AbsentKept (rk.geometry p) set way p q
+    × (rk.kind q ≡ rk.kind p)
 
 -- it is told of a hit
 abbrev pub RuleUsed : {Q : Type 0} → rule.Ghosts Q → ℕ → Option ℕ → Q → Q → Type 0

@@ -21,6 +21,9 @@ pub trait Replacement {
 
     ghost fills: { Self → ℕ → ℕ → List ℕ };
 
+    // Which of several kinds it is, where the type has more than one; told of a way, it stays of that kind.
+    ghost kind: { Self → ℕ } = { λ _. 0 };
+
     /// How many sets and ways there are.
     fn geometry(&self) -> Geometry
         ensures { result ≡ geometry self.now };
@@ -35,13 +38,15 @@ pub trait Replacement {
     fn used(&mut self, set: usize, way: usize)
         ensures geometry { geometry self.new ≡ geometry self.old }
         ensures order { (k : ℕ) → order self.new k ≡ told (geometry self.old) (order self.old) set way (uses self.old set way) k }
-        ensures absent { AbsentKept (geometry self.old) set way self.old self.new };
+        ensures absent { AbsentKept (geometry self.old) set way self.old self.new }
+        ensures kind { kind self.new ≡ kind self.old };
 
     /// Tells that a way was filled. Nothing changes where there is no such set or way.
     fn filled(&mut self, set: usize, way: usize)
         ensures geometry { geometry self.new ≡ geometry self.old }
         ensures order { (k : ℕ) → order self.new k ≡ told (geometry self.old) (order self.old) set way (fills self.old set way) k }
-        ensures absent { AbsentKept (geometry self.old) set way self.old self.new };
+        ensures absent { AbsentKept (geometry self.old) set way self.old self.new }
+        ensures kind { kind self.new ≡ kind self.old };
 
     // Each way of a set stands in its order exactly once.
     ghost once: { (s : Self) (set : ℕ) → set < (geometry s).sets → EachOnce (geometry s).ways (order s set) };
