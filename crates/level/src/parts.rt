@@ -47,6 +47,10 @@ impl<M: Memory, R: Replacement> Parts<M, R> {
         ensures rule { RuleFilled R.Replacement (arrived R.Replacement self.old.rule self.old.tables answer) self.old.rule self.new.rule }
         ensures tables { self.new.tables ≡ received (arrived R.Replacement self.old.rule self.old.tables answer) bytes self.old.tables }
     {
+        // most steps bring no answer
+        if answer.is_none() {
+            return;
+        }
         let geometry = self.rule.geometry();
         let Some(arrival) = self.tables.arrival(geometry, answer) else {
             return;

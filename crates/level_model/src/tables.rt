@@ -1,12 +1,13 @@
 //! The tables of a level.
-ghost use Rattle.std.specs.Prelude.{◌≡◌, ◌≤◌, ◌*◌, length, find, is_some, Some};
+ghost use Rattle.std.specs.Prelude.{◌≡◌, ◌≤◌, ◌*◌, false, length, find, is_some, MatchOption, Some};
+ghost use Rattle.memory.specs.Tickets.{AllOpenBelow, ticket_count};
 ghost use Rattle.list.specs.Keyed.{entry_of, altered};
 ghost use Rattle.std.specs.List.{list_any};
 ghost use Rattle.std.specs.Option.{option_copied};
 ghost use Rattle.level_model.specs.Registers.{bytes_after, condition_after, dues, ticket_of, target_ticket, register_line, is_waiting};
 ghost use Rattle.level_model.specs.Standing.{standing, condition_at};
 ghost use Rattle.level_model.specs.Steps.{Taken, line_sent, fault_in, arrival, pushed_all, way_after, ended, received, next_line, oldest_queued, evicted, reserved, dequeued};
-ghost use Rattle.level_model.specs.Tables.{empty_tables, row_of, target_count, open_count, register_path, path, pushed, with_target, new_register, hit_on, Asked};
+ghost use Rattle.level_model.specs.Tables.{empty_tables, is_open, row_of, target_count, open_count, register_path, path, pushed, with_target, new_register, hit_on, Asked};
 ghost use Rattle.level_model.specs.Ways.{way_at, holding, lowest_empty, unreserved};
 ghost use Rattle.level_model.specs.Limits.{most_registers, most_targets, most_open};
 ghost use Rattle.level_model.specs.declared.registers.Progress.TheVariants.{Sent};
@@ -245,12 +246,28 @@ impl Tables {
         });
     }
 
+    // A ticket that is not open, if one is left: the one behind a ticket of late, or else the lowest.
+    fn fresh_ticket(&self) -> Option<u32>
+        ensures { MatchOption result (AllOpenBelow (is_open self.now) ticket_count) (λ ticket. is_open self.now ticket ≡ false) }
+    {
+        let late = match (self.ready.last(), self.registers.last()) {
+            (_, Some(register)) => register.targets.last().map_or(0, |target| target.ticket),
+            (Some(ready), None) => ready.ticket,
+            (None, None) => 0,
+        };
+        let next = late.wrapping_add(1);
+        if self.is_open(next) {
+            return unopened_ticket(self);
+        }
+        Some(next)
+    }
+
     /// Takes a request for a line of this set, and answers its ticket; or nothing where there is no room for it.
     pub fn ask(&mut self, set: usize, line: u32, ask: Ask) -> Option<u32>
         ensures { Asked self.old set line ask result self.new }
     {
         let path = self.path(set, line)?;
-        let ticket = unopened_ticket(self)?;
+        let ticket = self.fresh_ticket()?;
         match path {
             Path::Hit(way) => self.hit(set, way, ticket, ask),
             Path::Merge => self.merge(line, Target { ticket, ask }),
@@ -260,7 +277,20 @@ impl Tables {
     }
 
     /// Takes the answer that has been ready longest, if one is.
+    #[inline]
     pub fn take_ready(&mut self) -> Option<Ready>
+        ensures { Taken self.old result self.new }
+    {
+        // in most steps none is
+        if self.ready.is_empty() {
+            return None;
+        }
+        self.take_first_ready()
+    }
+
+    // The same where one is.
+    #[inline(never)]
+    fn take_first_ready(&mut self) -> Option<Ready>
         ensures { Taken self.old result self.new }
     {
         take_first(&mut self.ready)
