@@ -7,6 +7,7 @@ mod FilledSetup
 mod ReadFrom
 mod Next
 pub mod Runs
+pub mod Later
 mod Groups
 mod Sizes
 mod Grown

@@ -54,7 +54,7 @@ given {held} {trace} at item to p l a =
     record { gives = g.0; before = here; on = omega arith; inside = g.1.0; bytes = g.1.1; limits = g.1.2 }
 
 -- a record that was given was taken off the bytes there
-given_there : (trace : List ℕ) (at : ℕ) (item : Item) (to : ℕ) (b : Bool) (p : Parsed Item) → cond b ended (from_offset trace at p) ≡ gave item to → (rest : List ℕ) × (p ≡ Took item rest) × (to ≡ length trace - length rest)
+pub given_there : (trace : List ℕ) (at : ℕ) (item : Item) (to : ℕ) (b : Bool) (p : Parsed Item) → cond b ended (from_offset trace at p) ≡ gave item to → (rest : List ℕ) × (p ≡ Took item rest) × (to ≡ length trace - length rest)
 given_there trace at item to true p e = absurd (let z : ◌≡◌ {A = ℕ} 0 1 = cc in omega arith)
 given_there trace at item to false (Refuses r) e = absurd (let z : ◌≡◌ {A = ℕ} 0 1 = cc in omega arith)
 given_there trace at item to false (Took x rest) e =
@@ -69,7 +69,8 @@ ended_later trace at false (Refuses r) e = absurd (let z : ◌≡◌ {A = ℕ} 0
 ended_later trace at false (Took x rest) e = absurd (let z : ◌≡◌ {A = ℕ} 0 1 = cc in omega arith)
 
 module _ (trace : List ℕ) (bytes : Bytes trace) where
-  left_bytes : (at : ℕ) → Bytes (drop at trace)
+  -- what is left of bytes is bytes
+  pub left_bytes : (at : ℕ) → Bytes (drop at trace)
   left_bytes at k = subst (λ n. n < 256) (sym (get_or-drop at trace k 0)) (bytes (at + k))
 
   -- one record before others

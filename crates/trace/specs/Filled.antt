@@ -38,6 +38,10 @@ filled b (note bytes) = b
 abbrev pub seen : Result ((Record × SetupBuffer) × Bor (List ℕ)) Refusal → Parsed (Item × SetupBuffer)
 seen r = parsed_as (λ s. (item_of s.0 s.1, s.1)) r
 
+-- the same of a record behind the first, which is seen alike beside any buffer
+abbrev pub seen_later : SetupBuffer → Result (Record × Bor (List ℕ)) Refusal → Parsed Item
+seen_later b r = parsed_as (λ s. item_of s b) r
+
 -- the fields of a record of a kind, and the buffer after them
 abbrev pub fields_onto : SetupBuffer → Kind → List ℕ → Parsed (Item × SetupBuffer)
 fields_onto b kind bs = and_then (fields kind bs) (λ item rest. Took (item, filled b item) rest)

@@ -16,3 +16,7 @@ Noted (Note text offset) to = offset + length text.now ≡ to
 -- the same of a record that was read off a trace of so many bytes
 abbrev pub NotedRead : ℕ → Result ((Record × SetupBuffer) × Bor (List ℕ)) Refusal → Type 0
 NotedRead end r = IfOk r (λ s. Noted s.0.0 (end - length s.1.now))
+
+-- the same of a record behind the first
+abbrev pub NotedLaterRead : ℕ → Result (Record × Bor (List ℕ)) Refusal → Type 0
+NotedLaterRead end r = IfOk r (λ s. Noted s.0 (end - length s.1.now))

@@ -1,10 +1,10 @@
-use Rattle.std.specs.Prelude.{◌≡◌, ℕ, ◌-◌, ◌≤◌, Bool, true, if◌then◌else◌, not, ◌&&◌, List, ◌++◌, length, take, drop, Some, None, Ok, Err, Option, Result, ◌==◌}
+use Rattle.std.specs.Prelude.{◌≡◌, ℕ, ◌-◌, ◌≤◌, Bool, true, false, if◌then◌else◌, not, ◌&&◌, List, ◌++◌, length, take, drop, Some, None, Ok, Err, Option, Result, ◌==◌, nat_le}
 use Rattle.trace.specs.declared.records.Record.{Record}
 use Rattle.trace.specs.declared.refusal.Refusal.{Refusal}
 use Rattle.trace.specs.declared.records.SetupBuffer.{SetupBuffer}
 use Rattle.trace.specs.Decode.{decode}
 use Rattle.trace.specs.Encode.{encode, in_limits}
-use Rattle.trace.specs.Items.{Item, item_of}
+use Rattle.trace.specs.Items.{Item, item_of, empty_buffer}
 use Rattle.trace.specs.Parsed.{Parsed, Took, Refuses}
 use Rattle.trace.specs.declared.refusal.Refused.{Refused}
 use Rattle.trace.specs.Notes.{Noted}
@@ -29,6 +29,16 @@ is_over trace at = not (at == 0) && at == length trace
 abbrev pub reading : List ℕ → ℕ → Outcome
 reading trace at = if is_over trace at then ended else from_offset trace at (decode (at == 0) (drop at trace))
 
+-- reading on from an offset behind the first record: a trace that ends there or before is at its end
+abbrev pub reading_later : List ℕ → ℕ → Outcome
+reading_later trace at = if nat_le (length trace) at then ended else from_offset trace at (decode false (drop at trace))
+
+-- what the answer to such a call says; a buffer is given to no such record
+abbrev pub later_outcome : ℕ → Result (Option (Record × ℕ)) Refusal → Outcome
+later_outcome at (Ok None) = ended
+later_outcome at (Ok (Some r)) = gave (item_of r.0 empty_buffer) r.1
+later_outcome at (Err refusal) = refused refusal at
+
 -- what a reader's answer says, with the caller's buffer and the reader's offset after it
 abbrev pub outcome : Result (Option Record) Refused → SetupBuffer → ℕ → Outcome
 outcome (Ok None) b to = ended
@@ -52,6 +62,12 @@ abbrev pub NotedIn : Result (Option Record) Refused → ℕ → Type 0
 NotedIn (Ok None) to = Unit {0}
 NotedIn (Ok (Some r)) to = Noted r to
 NotedIn (Err e) to = Unit {0}
+
+-- the same of a record behind the first, with the offset after it
+abbrev pub NotedLater : Result (Option (Record × ℕ)) Refusal → Type 0
+NotedLater (Ok None) = Unit {0}
+NotedLater (Ok (Some r)) = Noted r.0 r.1
+NotedLater (Err e) = Unit {0}
 
 -- what was read is written back: the bytes up to the next offset are those that the record is written as, and it is within its limits; the end is the trace's end, and a refusal tells the offset where its record begins
 abbrev pub ReadBack : List ℕ → ℕ → Outcome → Type 0

@@ -55,7 +55,8 @@ fn bad_lines_in_limits(bad_lines: &[BadLine]) -> bool
     bad_lines.iter().all(bad_line_in_limits)
 }
 
-fn setup_in_limits(setup: &Setup, buffer: &SetupBuffer) -> bool
+/// Whether every field of a setup is within its limits; its script and its bad lines lie in the buffer.
+pub fn setup_in_limits(setup: &Setup, buffer: &SetupBuffer) -> bool
     ensures { result ≡ in_limits (item_of (Record.Setup setup.now) buffer.now) }
 {
     let count = usize::from(setup.bad_line_count);

@@ -6,7 +6,7 @@ mod decoding;
 mod encoding;
 mod encoding_setup;
 mod fields;
-mod in_limits;
+pub mod in_limits;
 pub mod limits;
 mod numbers;
 pub mod reader;

@@ -39,8 +39,20 @@ fn read_groups(bytes: &[u8], last: usize) -> Option<u64>
     Some(value)
 }
 
-/// The number at the front, and the bytes after it.
+/// The number at the front, and the bytes after it. Most numbers have one byte.
+#[inline]
 pub(crate) fn read_number(bytes: &[u8]) -> Result<(u64, &[u8]), Refusal>
+    ensures value { parsed result ≡ number bytes.now }
+    ensures shorter { IfOk result (λ p. length p.1.now < length bytes.now) }
+{
+    match bytes {
+        [byte, rest @ ..] if *byte < 128 => Ok((u64::from(*byte), rest)),
+        _ => read_long_number(bytes),
+    }
+}
+
+// The same, however many bytes it has.
+fn read_long_number(bytes: &[u8]) -> Result<(u64, &[u8]), Refusal>
     ensures value { parsed result ≡ number bytes.now }
     ensures shorter { IfOk result (λ p. length p.1.now < length bytes.now) }
 {

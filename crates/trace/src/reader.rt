@@ -1,9 +1,10 @@
 //! The reader of a trace: it stands on the trace's bytes and gives one record after another.
 ghost use Rattle.std.specs.Prelude.{◌≡◌, ◌≤◌, length};
+ghost use Rattle.trace.specs.Reading.{reading_later, later_outcome, NotedLater};
 
-use crate::decoding::read_record;
+use crate::decoding::{read_later_record, read_record};
 use crate::records::{Record, SetupBuffer};
-use crate::refusal::Refused;
+use crate::refusal::{Refusal, Refused};
 
 /// Stands on a trace at the offset where the next record begins.
 #[derive(Drop)]
@@ -59,4 +60,17 @@ impl<'a> Reader<'a> {
         *buffer = filled;
         Ok(Some(record))
     }
+}
+
+/// The record that begins at an offset behind the first record, and the offset behind it. A trace that ends there or before is at its end.
+// No setup stands there, so no buffer goes in or comes out.
+pub fn read_later(trace: &[u8], offset: usize) -> Result<Option<(Record<'_>, usize)>, Refusal>
+    ensures value { later_outcome offset result ≡ reading_later trace.now offset }
+    ensures noted { NotedLater result }
+{
+    if offset >= trace.len() {
+        return Ok(None);
+    }
+    let (record, rest) = read_later_record(trace, offset)?;
+    Ok(Some((record, trace.len() - rest.len())))
 }
