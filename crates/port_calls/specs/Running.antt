@@ -10,7 +10,7 @@ use Rattle.port_calls.specs.declared.scenarios.Hierarchy.{Hierarchy}
 use Rattle.port_calls.specs.declared.scenarios.Hierarchy.TheVariants.{OnOrdered, OnScripted}
 use Rattle.port_calls.specs.declared.scenarios.Scenario.{Scenario}
 use Rattle.runs.specs.Kept.{KeptOnImage}
-use Rattle.runs.specs.Pace.{one_level_pace}
+use Rattle.hierarchy.specs.Pace.{one_level_pace}
 
 -- the image of so many lines: the byte at address a is a mod 251
 pub record IsImage (lines : ℕ) (image : List ℕ) : Type 0 where

@@ -1,3 +1,2 @@
 pub mod Exact
 pub mod Kept
-pub mod Pace

@@ -2,7 +2,7 @@
 ghost use Rattle.backing.specs.Clock.{counted_latency};
 ghost use Rattle.runs.specs.Exact.{RanOnOrdered};
 ghost use Rattle.runs.specs.Kept.{KeptOnImage};
-ghost use Rattle.runs.specs.Pace.{one_level_pace};
+ghost use Rattle.hierarchy.specs.Pace.{one_level_pace};
 
 use bottom::ordered::Ordered;
 use level::level::Level;
