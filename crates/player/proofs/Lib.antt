@@ -1,6 +1,3 @@
+pub mod Numbers
 pub mod Put
-pub mod Writes
-mod Lines
-pub mod Short
-mod Rest
-mod Runs
+pub mod Records

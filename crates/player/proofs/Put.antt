@@ -1,12 +1,10 @@
 -- bytes that are put into a buffer one part behind the other
-use Rattle.std.proofs.Common.{◌≡◌, ℕ, ◌+◌, ◌≤◌, if◌then◌else◌, nat_le, List, ◌++◌, length, take, drop, Some, None, sym, ap, ◌∙◌, arith}
-use Rattle.std.proofs.lemmas.Grind.{common_steps}
+use Rattle.std.proofs.Common.{◌≡◌, ℕ, ◌+◌, ◌≤◌, List, ◌++◌, length, take, drop, sym, ap, ◌∙◌, arith}
 use Rattle.std.proofs.lemmas.List.{append_assoc, drop-drop, drop_at, take_at, length-append, length-take-le}
-use Rattle.player.specs.Written.{buffer_with}
 
--- bytes that were given an end fit
-pub had_room : (room written more end : ℕ) → Some end ≡ (if nat_le (written + more) room then Some (written + more) else None) → (written + more ≤ room) × (end ≡ written + more)
-had_room room written more end e = grind (arith, common_steps)
+-- a buffer with bytes put behind so many
+abbrev pub buffer_with : ℕ → List ℕ → List ℕ → List ℕ
+buffer_with written bytes buffer = take written buffer ++ (bytes ++ drop (written + length bytes) buffer)
 
 -- one part behind the other is both parts at once
 pub buffer_with-append : (n : ℕ) (a b buffer : List ℕ) → n + length a ≤ length buffer → buffer_with (n + length a) b (buffer_with n a buffer) ≡ buffer_with n (a ++ b) buffer
@@ -36,3 +34,7 @@ put_behind n m a b buffer mid new h at first second =
     ∙ ap (λ k. buffer_with k b mid) at
     ∙ ap (buffer_with (n + length a) b) first
     ∙ buffer_with-append n a b buffer h
+
+-- bytes at the front
+pub put_front : (a buffer new : List ℕ) → new ≡ buffer_with 0 a buffer → new ≡ a ++ drop (length a) buffer
+put_front a buffer new e = let z : 0 + length a ≡ length a = omega arith in e ∙ ap (λ n. a ++ drop n buffer) z

@@ -1,5 +1,8 @@
-pub mod Shown
-pub mod Written
-pub mod Counts
-pub mod Listing
-pub mod Playing
+pub mod Faulty
+pub mod Image
+pub mod Limits
+pub mod Lines
+pub mod Player
+pub mod Progress
+pub mod Session
+pub mod Setup

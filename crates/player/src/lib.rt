@@ -1,9 +1,11 @@
-//! Plays a trace: its listing, with no memory yet under its requests.
+//! Players: each carries out one trace, call by call, over a hierarchy that the trace's setup names.
 #![tactic(auto)]
 
-mod count;
+mod faulty;
+mod image;
+pub mod limits;
 mod listing;
-mod playing;
-
-pub use listing::Line;
-pub use playing::play;
+pub mod player;
+mod progress;
+mod session;
+mod setup;

@@ -1,52 +1,68 @@
 //! The lines of a listing, and how they are written.
-ghost use Rattle.player.specs.Shown.{shown, ended_line, note_fields, number_fields};
-ghost use Rattle.player.specs.Written.{count_with, buffer_with, buffer_after};
-ghost use Rattle.std.specs.Prelude.{◌≡◌, ◌+◌, ◌≤◌, if◌then◌else◌, Some, None, nat_le, length};
+ghost use Rattle.player.specs.Limits.{line_room};
+ghost use Rattle.player.specs.Lines.{answer_line, number_line, note_line, shown, Short, Writes};
+ghost use Rattle.std.specs.Prelude.{◌≡◌, ◌+◌, ◌≤◌, [], ◌∷◌, ◌++◌, length, take, drop, Some};
+ghost use Rattle.trace.specs.Filled.{onto};
+
+use port::answer::Redeemed;
 
 /// A line of a listing.
 // Not `Display`, which prints text alone: a note may have any bytes.
 #[derive(Clone, Copy)]
-pub enum Line<'a> {
-    /// A note of the trace, as it stands there.
-    Note { text: &'a [u8] },
-    /// A record that was refused, and the number of the refusal.
+pub(crate) enum Line<'t> {
+    /// A number was redeemed for this.
+    Answer { number: u32, redeemed: Redeemed },
+    /// A record was refused by a number.
     // A number, since the crates below each have refusals of their own.
-    Refused { record: u64, code: u8 },
+    Refused { index: u64, code: u8 },
+    /// A note of the trace, as it stands there.
+    Note { text: &'t [u8] },
     /// The end: how many requests were accepted, and how many steps were made.
-    End { accepted: u64, steps: u64 },
+    End { accepted: u32, steps: u64 },
 }
 
 impl Line<'_> {
-    /// Puts the line and its newline into a buffer, behind the bytes that stand written there, and answers how many then do.
-    /// Answers none and changes nothing where the line does not fit there whole.
-    pub fn write(&self, buffer: &mut [u8], written: usize) -> Option<usize>
-        ensures count { result ≡ count_with (length buffer.old) written (shown self.now) }
-        ensures after { buffer.new ≡ buffer_after result written (shown self.now) buffer.old }
+    /// Puts the line at the front of a buffer, and answers how many bytes it has.
+    pub(crate) fn write(&self, buffer: &mut [u8]) -> usize
+        requires room { line_room ≤ length buffer.old }
+        requires short { Short self.now }
+        ensures { Writes (Some (shown self.now)) buffer.old result buffer.new }
     {
         match *self {
-            Line::Note { text } => write_note(buffer, written, text),
-            Line::Refused { record, code } => {
-                write_numbers(buffer, written, b'X', record, u64::from(code))
+            Line::Answer { number, redeemed } => write_answer(buffer, number, redeemed),
+            Line::Refused { index, code } => {
+                write_numbers(buffer, b'X', &[index, u64::from(code)])
             }
+            Line::Note { text } => write_note(buffer, text),
             Line::End { accepted, steps } => {
-                write_numbers(buffer, written, b'E', accepted, steps)
+                write_numbers(buffer, b'E', &[u64::from(accepted), steps])
             }
         }
     }
 }
 
-// How many bytes stand written once `more` are put behind them, if these fit the room.
-fn end_within(room: usize, written: usize, more: usize) -> Option<usize>
-    ensures { result ≡ (if nat_le (written + more) room then Some (written + more) else None) }
+// The line of an answer.
+fn write_answer(buffer: &mut [u8], number: u32, redeemed: Redeemed) -> usize
+    requires { line_room ≤ length buffer.old }
+    ensures { Writes (Some (answer_line number redeemed)) buffer.old result buffer.new }
 {
-    written.checked_add(more).filter(|end| *end <= room)
+    let number = u64::from(number);
+    match redeemed {
+        Redeemed::Value(value) => write_numbers(buffer, b'L', &[number, value]),
+        Redeemed::Done => write_numbers(buffer, b'S', &[number]),
+        Redeemed::Fault(fault) => {
+            let line = u64::from(fault.line);
+            let numbers = [number, u64::from(fault.level), line, u64::from(fault.cause)];
+            write_numbers(buffer, b'F', &numbers)
+        }
+    }
 }
 
-// Puts bytes that fit behind those that stand written.
+// Puts bytes that fit behind those that stand written, and answers how many then do.
 fn put(buffer: &mut [u8], written: usize, bytes: &[u8]) -> usize
     requires { written + length bytes.now ≤ length buffer.old }
     ensures count { result ≡ written + length bytes.now }
-    ensures after { buffer.new ≡ buffer_with written bytes.now buffer.old }
+    ensures after { buffer.new ≡ take written buffer.old ++ (bytes.now ++ drop (written + length bytes.now) buffer.old) }
 {
     let end = written + bytes.len();
     buffer[written..end].copy_from_slice(bytes);
@@ -54,41 +70,26 @@ fn put(buffer: &mut [u8], written: usize, bytes: &[u8]) -> usize
 }
 
 // The line of a note.
-fn write_note(buffer: &mut [u8], written: usize, text: &[u8]) -> Option<usize>
-    ensures count { result ≡ count_with (length buffer.old) written (ended_line (note_fields text.now)) }
-    ensures after { buffer.new ≡ buffer_after result written (ended_line (note_fields text.now)) buffer.old }
+fn write_note(buffer: &mut [u8], text: &[u8]) -> usize
+    requires { length text.now + 3 ≤ length buffer.old }
+    ensures { Writes (Some (note_line text.now)) buffer.old result buffer.new }
 {
-    let end = end_within(buffer.len(), written, text.len().checked_add(3)?)?;
-    let text_from = put(buffer, written, b"N ");
-    let text_end = put(buffer, text_from, text);
-    put(buffer, text_end, b"\n");
-    Some(end)
+    let letter_end = put(buffer, 0, b"N ");
+    let text_end = put(buffer, letter_end, text);
+    put(buffer, text_end, b"\n")
 }
 
-// The line of a letter and two numbers.
-fn write_numbers(
-    buffer: &mut [u8],
-    written: usize,
-    letter: u8,
-    first: u64,
-    second: u64,
-) -> Option<usize>
-    ensures count { result ≡ count_with (length buffer.old) written (ended_line (number_fields letter first second)) }
-    ensures after { buffer.new ≡ buffer_after result written (ended_line (number_fields letter first second)) buffer.old }
+// The line of a letter and at most four numbers, each behind a space.
+fn write_numbers(buffer: &mut [u8], letter: u8, numbers: &[u64]) -> usize
+    requires room { line_room ≤ length buffer.old }
+    requires few { length numbers.now ≤ 4 }
+    ensures { Writes (Some (number_line (letter ∷ []) numbers.now)) buffer.old result buffer.new }
 {
-    let mut first_buffer = itoa::Buffer::new();
-    let mut second_buffer = itoa::Buffer::new();
-    let first_digits = first_buffer.format(first).as_bytes();
-    let second_digits = second_buffer.format(second).as_bytes();
-    let end = end_within(
-        buffer.len(),
-        written,
-        first_digits.len() + second_digits.len() + 4,
-    )?;
-    let first_from = put(buffer, written, &[letter, b' ']);
-    let space_from = put(buffer, first_from, first_digits);
-    let second_from = put(buffer, space_from, b" ");
-    let newline_from = put(buffer, second_from, second_digits);
-    put(buffer, newline_from, b"\n");
-    Some(end)
+    let mut written = put(buffer, 0, &[letter]);
+    for number in numbers {
+        let mut digits = itoa::Buffer::new();
+        let space_end = put(buffer, written, b" ");
+        written = put(buffer, space_end, digits.format(*number).as_bytes());
+    }
+    put(buffer, written, b"\n")
 }

@@ -1,25 +1,17 @@
-use Rattle.std.proofs.Common.{◌≡◌, ◌+◌, ◌≤◌, [], ◌∷◌, ◌++◌, length, decimal, sym, ap, ◌∙◌, append_assoc, arith, rules}
-use Rattle.player.specs.Written.{buffer_with}
-use Rattle.player.proofs.Put.{put_behind}
+use Rattle.std.proofs.Common.{◌≡◌, ◌+◌, ◌<◌, ◌≤◌, length, get_or, decimal, arith, rules}
+use Rattle.player.proofs.Numbers.{written_more}
 use Rattle.player.proofs.listing.write_numbers.Goals as goal
 
-pub returns-clause-after : goal.returns-clause-after
-returns-clause-after c =
-    let first = c.as_bytes-first_digits.result.now in
-    let second = c.as_bytes-second_digits.result.now in
-    let fits : c.args.written + (length first + length second + 4) ≤ length c.args.buffer.now = search rules in
-    let one = c.put-first_from in
-    let two = c.put-space_from in
-    let three = c.put-second_from in
-    let four = c.put-newline_from in
-    let all : c.put.new.buffer ≡ buffer_with c.args.written (c.args.letter ∷ 32 ∷ (first ++ 32 ∷ (second ++ 10 ∷ []))) c.args.buffer.now =
-    put_behind c.args.written one.result (c.args.letter ∷ 32 ∷ []) (first ++ 32 ∷ (second ++ 10 ∷ [])) c.args.buffer.now one.new.buffer c.put.new.buffer (omega arith) one.ensures.count one.ensures.after
-    (put_behind one.result two.result first (32 ∷ (second ++ 10 ∷ [])) one.new.buffer two.new.buffer c.put.new.buffer (omega arith) two.ensures.count two.ensures.after
-    (put_behind two.result three.result (32 ∷ []) (second ++ 10 ∷ []) two.new.buffer three.new.buffer c.put.new.buffer (omega arith) three.ensures.count three.ensures.after
-    (put_behind three.result four.result second (10 ∷ []) three.new.buffer four.new.buffer c.put.new.buffer (omega arith) four.ensures.count four.ensures.after c.put.ensures.after))) in
-    let is_first : first ≡ decimal c.args.first = search rules in
-    let is_second : second ≡ decimal c.args.second = search rules in
-    all
-    ∙ ap (λ d. buffer_with c.args.written (c.args.letter ∷ 32 ∷ (d ++ 32 ∷ (second ++ 10 ∷ []))) c.args.buffer.now) is_first
-    ∙ ap (λ d. buffer_with c.args.written (c.args.letter ∷ 32 ∷ (decimal c.args.first ++ 32 ∷ (d ++ 10 ∷ []))) c.args.buffer.now) is_second
-    ∙ ap (λ fields. buffer_with c.args.written (c.args.letter ∷ 32 ∷ fields) c.args.buffer.now) (sym (append_assoc (decimal c.args.first) (32 ∷ decimal c.args.second) (10 ∷ [])))
+pub loop-number-preserved : goal.loop-number-preserved
+loop-number-preserved c =
+    let i = c.loop-number.number-index in
+    let within : i < length c.args.numbers.now = search rules in
+    let digits = c.as_bytes.result.now in
+    let is : digits ≡ decimal (get_or c.args.numbers.now i 0) = search rules in
+    let short : length digits ≤ 20 = search rules in
+    let fits : c.loop-number.written + 1 ≤ length c.loop-number.buffer = search rules in
+    let space = c.put-space_end in
+    let last = c.put-written-in-loop-number in (
+      search rules,
+      written_more c.args.buffer.now c.args.letter c.args.numbers.now i c.loop-number.written 0 c.loop-number.buffer space.new.buffer last.new.buffer digits space.result last.result within (omega (arith, c.requires.few, c.requires.room)) c.loop-number.invariant.1 space.ensures.count space.ensures.after last.ensures.count last.ensures.after is short fits,
+    )
