@@ -317,7 +317,7 @@ module _ {S : Type 0} (st : state.Ghosts S) (k : Ghosts S) (laws : Laws (facts s
 
 module _ {S : Type 0} (st : state.Ghosts S) (k : Ghosts S) (laws : Laws (facts st) k.reads k.writes k.steps) where
   -- a port that was opened on an idle memory, and what any calls made of it
-  reached : (start : S) (ration : ℕ) → Idle (facts st start) → (log : List Event) (c : S) (m : Numbers) → Runs st k start (new_numbers ration) log c m → Reached (facts st start) (counted_ration ration) log (facts st c) m
+  pub reached : (start : S) (ration : ℕ) → Idle (facts st start) → (log : List Event) (c : S) (m : Numbers) → Runs st k start (new_numbers ration) log c m → Reached (facts st start) (counted_ration ration) log (facts st c) m
   reached start ration idle [] c m runs =
       subst (λ x. Reached (facts st start) (counted_ration ration) [] (facts st x) m) (sym runs.0)
       (subst (λ v. Reached (facts st start) (counted_ration ration) [] (facts st start) v) (sym runs.1) (begins (facts st start) ration idle))

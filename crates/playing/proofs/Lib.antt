@@ -1,0 +1,9 @@
+pub mod Answered
+pub mod Goes
+pub mod Lists
+pub mod Owed
+pub mod Plays
+pub mod Records
+pub mod Shown
+pub mod Stands
+pub mod Start
