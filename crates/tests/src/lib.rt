@@ -9,6 +9,6 @@ mod bottom_memories;
 mod copies;
 pub mod fetching;
 #[cfg(test)]
-mod listings;
+mod plays;
 pub mod victims;
 pub mod waiting;
