@@ -70,6 +70,8 @@ impl<'a, const LIMIT: usize> Backing<'a, LIMIT> {
     }
 
     /// Answers the request at this index among those open, oldest first, which is then no longer open.
+    // It stays a call, so that the steps that answer nothing do not pay for its frame.
+    #[inline(never)]
     pub fn answer(&mut self, index: usize, buffer: &mut [u8; 16]) -> Option<Answer>
         ensures { AnswersAt (Some index) self.old buffer.old result self.new buffer.new }
     {

@@ -38,7 +38,9 @@ impl Script {
         ensures after { ScriptSteps self.old self.new }
     {
         let byte = usize::from(self.bytes[self.index]);
-        self.index = (self.index + 1) % self.bytes.len();
+        let next = self.index + 1;
+        // a remainder would be a division in each step
+        self.index = if next < self.bytes.len() { next } else { 0 };
         byte.min(open_count).checked_sub(1)
     }
 }

@@ -33,8 +33,7 @@ impl<M: Memory, R: Replacement> Parts<M, R> {
             return Err(Refusal::NoLine);
         }
         let set = self.rule.geometry().set_of(line);
-        let way = self.tables.holding(set, line);
-        let ticket = self.tables.ask(set, line, ask).ok_or(Refusal::Busy)?;
+        let (ticket, way) = self.tables.ask(set, line, ask).ok_or(Refusal::Busy)?;
         if let Some(way) = way {
             self.rule.used(set, way);
         }
@@ -112,6 +111,20 @@ impl<M: Memory, R: Replacement> Parts<M, R> {
 
     // Makes one step below, and answers what has been ready longest.
     pub(crate) fn step(&mut self, buffer: &mut [u8; 16]) -> Option<Answer>
+        ensures { Steps R.Replacement M.Memory.own self.old.below self.old.tables self.old.rule buffer.old result self.new.below self.new.tables self.new.rule buffer.new }
+    {
+        if self.tables.is_at_rest() {
+            // what is answered below belongs to no register
+            let mut bytes = [0; LINE_SIZE];
+            let _ = self.below.step(&mut bytes);
+            return None;
+        }
+        self.step_at_work(buffer)
+    }
+
+    // The same, whatever the tables hold. It stays a call, so that a step at rest does not pay for its frame.
+    #[inline(never)]
+    fn step_at_work(&mut self, buffer: &mut [u8; 16]) -> Option<Answer>
         ensures { Steps R.Replacement M.Memory.own self.old.below self.old.tables self.old.rule buffer.old result self.new.below self.new.tables self.new.rule buffer.new }
     {
         let ready = self.tables.take_ready();

@@ -27,8 +27,7 @@ use Rattle.level_model.specs.Facts.{way_of, queued_bytes, way_bytes, base, targe
 use Rattle.level_model.specs.Kept.{WayKept, QueuedKept, sent_ticket, LineKept, Kept}
 use Rattle.level_model.specs.Moves.{RuleUsed, RuleFilledBy, RuleFilled, Shows, WritesBack, SendsBy, Asks, Steps}
 use Rattle.level_model.specs.Registers.{register_line, queued_line, sent_in, is_waiting}
-use Rattle.level_model.specs.Steps.{with_ready, arrival, received, may_go, choice, fetch_at, fetch_of, fetch}
-use Rattle.list.specs.Keyed.{First}
+use Rattle.level_model.specs.Steps.{First, with_ready, arrival, received, may_go, choice, fetch_at, fetch_of, fetch}
 use Rattle.level_model.specs.Tables.{register_of, queued_of, target_count}
 use Rattle.level_model.specs.Ways.{row, way_at, is_for, is_reserved, holding}
 use Rattle.level_model.specs.declared.registers.Ask.{Ask}

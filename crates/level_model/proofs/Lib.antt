@@ -1,6 +1,5 @@
 pub mod Asks
 pub mod Begins
-pub mod EndedRegisters
 pub mod Laws
 pub mod Lines
 pub mod MaskBits
@@ -9,6 +8,7 @@ pub mod Open
 pub mod OpenTickets
 pub mod Pushed
 pub mod Receives
+pub mod Rests
 pub mod Rows
 pub mod Sends
 pub mod Targets

@@ -1,7 +1,7 @@
 -- the parts of a level's step, as far as its tables go
 use Rattle.std.specs.Prelude.{◌≡◌, ℕ, ◌%◌, if◌then◌else◌, List, [], ◌∷◌, find, length, is_some, Some, None, Option, ◌==◌, ◌||◌, slice_get}
 use Rattle.std.specs.Option.{option_map, option_or}
-use Rattle.list.specs.Keyed.{entry_of, without, altered, First}
+use Rattle.list.specs.Keyed.{entry_of, without, altered}
 use Rattle.memory.specs.declared.replies.Answer.{Answer}
 use Rattle.memory.specs.declared.replies.Fault.{Fault}
 use Rattle.memory.specs.declared.replies.Status.{Status}
@@ -28,6 +28,11 @@ use Rattle.level_model.specs.declared.ways.Way.TheVariants.{Empty, Reserved, Fil
 -- the tables with other answers ready
 abbrev pub with_ready : List Ready → Tables → Tables
 with_ready xs t = record t { ready = record { items = xs } }
+
+-- the first of a list leaves, if it has one
+abbrev pub First : {X : Type 0} → List X → Option X → List X → Type 0
+First before None after = (before ≡ []) × (after ≡ [])
+First before (Some x) after = before ≡ x ∷ after
 
 -- the answer that has been ready longest is taken out, if one is ready
 abbrev pub Taken : Tables → Option Ready → Tables → Type 0

@@ -1,5 +1,5 @@
 -- the tables of a level, and what a request makes of them
-use Rattle.std.specs.Prelude.{◌≡◌, ℕ, ◌+◌, Bool, false, if◌then◌else◌, List, [], ◌∷◌, ◌++◌, length, is_some, Some, None, Option, ◌==◌, ◌||◌, nat_le}
+use Rattle.std.specs.Prelude.{◌≡◌, ℕ, ◌+◌, Bool, false, if◌then◌else◌, List, [], ◌∷◌, ◌++◌, length, is_some, Some, None, Option, ◌==◌, ◌&&◌, ◌||◌, nat_le}
 use Rattle.std.specs.List.{list_any}
 use Rattle.list.specs.Keyed.{entry_of, altered}
 use Rattle.list.specs.Totals.{total}
@@ -21,6 +21,10 @@ use Rattle.level_model.specs.declared.ways.Way.TheVariants.{Empty, Reserved, Fil
 -- tables that hold nothing
 abbrev pub empty_tables : Tables
 empty_tables = record { ways = empty_ways; registers = record { items = [] }; queue = record { items = [] }; ready = record { items = [] } }
+
+-- nothing is to be done: no answer is ready, no line awaited, and none queued
+abbrev pub at_rest : Tables → Bool
+at_rest t = (length t.ready.items == 0) && (length t.registers.items == 0) && (length t.queue.items == 0)
 
 -- the ways of a set
 abbrev pub row_of : Tables → ℕ → List Way

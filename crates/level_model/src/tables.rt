@@ -1,24 +1,24 @@
 //! The tables of a level.
-ghost use Rattle.std.specs.Prelude.{◌≡◌, ◌≤◌, ◌*◌, false, length, find, is_some, MatchOption, Some};
+ghost use Rattle.std.specs.Prelude.{◌≡◌, ◌≤◌, ◌*◌, false, length, find, is_some, MatchOption, IfSome, Some};
 ghost use Rattle.memory.specs.Tickets.{AllOpenBelow, ticket_count};
 ghost use Rattle.list.specs.Keyed.{entry_of, altered};
 ghost use Rattle.std.specs.List.{list_any};
-ghost use Rattle.std.specs.Option.{option_copied};
+ghost use Rattle.std.specs.Option.{option_copied, option_map};
 ghost use Rattle.level_model.specs.Registers.{bytes_after, condition_after, dues, ticket_of, target_ticket, register_line, is_waiting};
 ghost use Rattle.level_model.specs.Standing.{standing, condition_at};
 ghost use Rattle.level_model.specs.Steps.{Taken, line_sent, fault_in, arrival, pushed_all, way_after, ended, received, next_line, oldest_queued, evicted, reserved, dequeued};
-ghost use Rattle.level_model.specs.Tables.{empty_tables, is_open, row_of, target_count, open_count, register_path, path, pushed, with_target, new_register, hit_on, Asked};
+ghost use Rattle.level_model.specs.Tables.{empty_tables, at_rest, is_open, row_of, target_count, open_count, register_path, path, pushed, with_target, new_register, hit_on, Asked};
 ghost use Rattle.level_model.specs.Ways.{way_at, holding, lowest_empty, unreserved};
 ghost use Rattle.level_model.specs.Limits.{most_registers, most_targets, most_open};
 ghost use Rattle.level_model.specs.declared.registers.Progress.TheVariants.{Sent};
 ghost use Rattle.level_model.specs.declared.registers.Register.{Register};
 ghost use Rattle.level_model.specs.declared.ways.Condition.TheVariants.{Clean};
 
-use crate::registers::{Ask, MOST_TARGETS, Progress, QueuedLine, Ready, Register, Target};
+use crate::registers::{Ask, Progress, QueuedLine, Ready, Register, Target};
 use crate::standing::Standing;
 use crate::ways::{CachedLine, Condition, Way, Ways};
 use arrayvec::ArrayVec;
-use list::keyed::{entry_of, find, take, take_first};
+use list::keyed::{entry_of, find, take};
 use memory::replies::{Answer, Fault, Status};
 use memory::tickets::{Tickets, unopened_ticket};
 use replacement::geometry::Geometry;
@@ -128,6 +128,33 @@ fn way_after(line: u32, fault: Option<Fault>, bytes: [u8; 16], condition: Condit
     }
 }
 
+// Makes answers to these targets behind those that are ready, oldest first, as far as there is room: of a line that has this
+// fault, or of a good one with these bytes before them. Answers the bytes after them, and whether the memory below holds these.
+fn serve(
+    targets: &[Target],
+    fault: Option<Fault>,
+    bytes: [u8; 16],
+    ready: &mut ArrayVec<Ready, MOST_OPEN>,
+) -> ([u8; 16], Condition)
+    ensures value { result ≡ (bytes_after fault bytes targets.now, condition_after Clean targets.now) }
+    ensures after { ready.new.items ≡ pushed_all most_open ready.old.items (dues fault bytes targets.now) }
+{
+    let mut bytes = bytes;
+    let mut condition = Condition::Clean;
+    for target in targets {
+        let reply = target.ask.reply_to(fault, bytes);
+        let _ = ready.try_push(Ready {
+            ticket: target.ticket,
+            reply,
+        });
+        // in two steps: in a loop the checker does not yet give an array what a call answers
+        let laid = target.ask.bytes_asked(fault, bytes);
+        bytes = laid;
+        condition = target.ask.condition_asked(condition);
+    }
+    (bytes, condition)
+}
+
 /// A ticket is open while its answer is ready, or it is a target's.
 impl Tickets for Tables {
     ghost use Rattle.level_model.specs.Tables.{is_open};
@@ -160,13 +187,6 @@ impl Tables {
         self.ready.len() + target_count(self.registers.as_slice())
     }
 
-    /// The way of a set that holds a line, or none.
-    pub fn holding(&self, set: usize, line: u32) -> Option<usize>
-        ensures { result ≡ holding line (row_of self.now set) }
-    {
-        self.ways.holding(set, line)
-    }
-
     /// The lowest empty way among the first `ways` of a set, or none.
     pub fn lowest_empty(&self, set: usize, ways: usize) -> Option<usize>
         ensures { result ≡ lowest_empty ways (row_of self.now set) }
@@ -197,13 +217,15 @@ impl Tables {
     fn path(&self, set: usize, line: u32) -> Option<Path>
         ensures { result ≡ path self.now set line }
     {
+        let path = match self.ways.holding(set, line) {
+            Some(way) => Path::Hit(way),
+            None => self.register_path(line)?,
+        };
+        // last, since it looks at every register
         if self.open_count() >= MOST_OPEN {
             return None;
         }
-        match self.ways.holding(set, line) {
-            Some(way) => Some(Path::Hit(way)),
-            None => self.register_path(line),
-        }
+        Some(path)
     }
 
     // A way answers a request.
@@ -246,34 +268,50 @@ impl Tables {
         });
     }
 
-    // A ticket that is not open, if one is left: the one behind a ticket of late, or else the lowest.
+    // A ticket that is not open, if one is left: the next one that is not behind the newest that is easily found, or else
+    // the lowest.
     fn fresh_ticket(&self) -> Option<u32>
         ensures { MatchOption result (AllOpenBelow (is_open self.now) ticket_count) (λ ticket. is_open self.now ticket ≡ false) }
     {
-        let late = match (self.ready.last(), self.registers.last()) {
-            (_, Some(register)) => register.targets.last().map_or(0, |target| target.ticket),
-            (Some(ready), None) => ready.ticket,
-            (None, None) => 0,
-        };
-        let next = late.wrapping_add(1);
-        if self.is_open(next) {
-            return unopened_ticket(self);
+        let answered = self.ready.last().map_or(0, |ready| ready.ticket);
+        let awaited = self.registers.last().and_then(|r| r.targets.last());
+        let newest = answered.max(awaited.map_or(0, |target| target.ticket));
+        match (newest.wrapping_add(1)..u32::MAX).find(|ticket| !self.is_open(*ticket)) {
+            Some(ticket) => Some(ticket),
+            None => unopened_ticket(self),
         }
-        Some(next)
     }
 
-    /// Takes a request for a line of this set, and answers its ticket; or nothing where there is no room for it.
-    pub fn ask(&mut self, set: usize, line: u32, ask: Ask) -> Option<u32>
-        ensures { Asked self.old set line ask result self.new }
+    /// Takes a request for a line of this set, and answers its ticket and the way that holds the line, if one does; or nothing
+    /// where there is no room for it.
+    pub fn ask(&mut self, set: usize, line: u32, ask: Ask) -> Option<(u32, Option<usize>)>
+        ensures asked { Asked self.old set line ask (option_map (λ taken. taken.0) result) self.new }
+        ensures way { IfSome result (λ taken. taken.1 ≡ holding line (row_of self.old set)) }
     {
         let path = self.path(set, line)?;
         let ticket = self.fresh_ticket()?;
         match path {
-            Path::Hit(way) => self.hit(set, way, ticket, ask),
-            Path::Merge => self.merge(line, Target { ticket, ask }),
-            Path::Miss => self.miss(line, Target { ticket, ask }),
+            Path::Hit(way) => {
+                self.hit(set, way, ticket, ask);
+                Some((ticket, Some(way)))
+            }
+            Path::Merge => {
+                self.merge(line, Target { ticket, ask });
+                Some((ticket, None))
+            }
+            Path::Miss => {
+                self.miss(line, Target { ticket, ask });
+                Some((ticket, None))
+            }
         }
-        Some(ticket)
+    }
+
+    /// Whether nothing is to be done: no answer is ready, no line awaited, and none queued.
+    #[inline]
+    pub fn is_at_rest(&self) -> bool
+        ensures { result ≡ at_rest self.now }
+    {
+        self.ready.is_empty() && self.registers.is_empty() && self.queue.is_empty()
     }
 
     /// Takes the answer that has been ready longest, if one is.
@@ -293,7 +331,7 @@ impl Tables {
     fn take_first_ready(&mut self) -> Option<Ready>
         ensures { Taken self.old result self.new }
     {
-        take_first(&mut self.ready)
+        self.ready.pop_at(0)
     }
 
     // The line whose register was sent under this ticket.
@@ -322,43 +360,17 @@ impl Tables {
         })
     }
 
-    // Makes answers to these targets, oldest first, of a line that has this fault, or of a good one with these bytes
-    // before them. Answers the bytes after them, and whether the memory below holds these.
-    fn serve(
-        &mut self,
-        targets: ArrayVec<Target, MOST_TARGETS>,
-        fault: Option<Fault>,
-        bytes: [u8; 16],
-    ) -> ([u8; 16], Condition)
-        ensures value { result ≡ (bytes_after fault bytes targets.items, condition_after Clean targets.items) }
-        ensures after { self.new ≡ record self.old { ready = record { items = pushed_all most_open self.old.ready.items (dues fault bytes targets.items) } } }
-    {
-        let mut targets = targets;
-        let mut bytes = bytes;
-        let mut condition = Condition::Clean;
-        while let Some(target) = take_first(&mut targets) {
-            let reply = target.ask.reply_to(fault, bytes);
-            let _ = self.ready.try_push(Ready {
-                ticket: target.ticket,
-                reply,
-            });
-            // in two steps: in a loop the checker does not yet give an array what a call answers
-            let laid = target.ask.bytes_asked(fault, bytes);
-            bytes = laid;
-            condition = target.ask.condition_asked(condition);
-        }
-        (bytes, condition)
-    }
-
     /// Ends the register of a line that came from below: the way holds the line, or is empty where the line has a fault, and
     /// its targets' answers are ready, as far as there is room. Nothing changes where the line has no register.
     pub fn end_register(&mut self, arrival: Arrival, bytes: [u8; 16])
         ensures { self.new ≡ received (Some arrival) bytes self.old }
     {
-        let Some((_, register)) = take(&mut self.registers, arrival.line) else {
+        let Some(register) = entry_of(self.registers.as_slice(), arrival.line) else {
             return;
         };
-        let (bytes, condition) = self.serve(register.targets, arrival.fault, bytes);
+        let targets = register.targets.as_slice();
+        let (bytes, condition) = serve(targets, arrival.fault, bytes, &mut self.ready);
+        let _ = take(&mut self.registers, arrival.line);
         let way = way_after(arrival.line, arrival.fault, bytes, condition);
         self.ways.put(arrival.set, arrival.way, way);
     }

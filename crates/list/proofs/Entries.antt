@@ -110,10 +110,6 @@ module _ {X : Type 0} (key : X → ℕ) where
   around sought [] o e = absurd (none_some o e)
   around sought (x ∷ xs) o e = around_step sought x o xs (eqb (key x) sought) refl e (around sought xs o)
 
-  -- an entry that is found has the key sought
-  pub key_of_entry : (k : ℕ) (xs : List X) (o : X) → entry_of key k xs ≡ Some o → key o ≡ k
-  key_of_entry k xs o e = let a : Around key k xs o = around k xs o e in a.has
-
   module _ (sought : ℕ) (alter : X → X) (same : (x : X) → key (alter x) ≡ key x) where
     other_step : (x : X) (k : ℕ) (b : Bool) (xs rest : List X) → k ≢ sought → eqb (key x) sought ≡ b → entry_of key k rest ≡ entry_of key k xs → entry_of key k (cond b (alter x ∷ xs) (x ∷ rest)) ≡ cond (eqb (key x) k) (Some x) (entry_of key k xs)
     other_step x k true xs rest n e h =

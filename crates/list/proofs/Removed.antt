@@ -1,7 +1,7 @@
 -- the first entry that has a key: where it stands, and what is left when it goes
 use Rattle.std.proofs.Common.{◌≡◌, ℕ, suc, ◌+◌, ◌-◌, ◌<◌, Bool, true, false, cond, eqb, List, [], ◌∷◌, ◌++◌, length, take, drop, Some, None, Option, sym, refl, ap, ◌∙◌, arith, not, ltb}
 use borrow.Rule.Slice.PartMut.{put_mid}
-use Rattle.list.specs.Keyed.{taken, index_of, entry_of, without, moved}
+use Rattle.list.specs.Keyed.{taken, index_of, without, moved}
 use Rattle.std.proofs.lemmas.List.{append-nil, drop_all, drop-drop, length-drop, same_from_push, take_all, take_rest}
 use Rattle.std.specs.List.{prefix_len, refill}
 use Rattle.std.specs.Option.{option_map}
@@ -84,33 +84,3 @@ refill_same xs zs long =
     ap (λ rest. take (length xs) (zs ++ rest)) (drop_all (length zs) xs (omega arith))
     ∙ ap (take (length xs)) (append-nil zs)
     ∙ take_all (length xs) zs (omega arith)
-
-module _ {X : Type 0} (key : X → ℕ) (sought : ℕ) where
-  next_taken : (r : Option (ℕ × X)) (p : ℕ × X) → option_map (λ q. (suc q.0, q.1)) r ≡ Some p → (i : ℕ) × (r ≡ Some (i, p.1))
-  next_taken None p e = absurd (let z : ◌≡◌ {A = ℕ} 0 1 = cc in omega arith)
-  next_taken (Some q) p e = (q.0, let z : q.1 ≡ p.1 = some_second q.1 p.1 (suc q.0) p.0 e in ap (λ x. Some (q.0, x)) z)
-    where
-      some_second : (x y : X) (i j : ℕ) → ◌≡◌ {A = Option (ℕ × X)} (Some (i, x)) (Some (j, y)) → x ≡ y
-      some_second x y i j e = let w : ◌≡◌ {A = Option X} (Some x) (Some y) = ap (λ (o : Option (ℕ × X)). option_map (λ (p : ℕ × X). p.1) o) e in cc
-
-  taken_step : (x : X) (xs : List X) (b : Bool) (i : ℕ) (e : X) → cond {A = Option (ℕ × X)} b (Some (0, x)) (option_map (λ p. (suc p.0, p.1)) (taken key sought xs)) ≡ Some (i, e) → ((j : ℕ) → taken key sought xs ≡ Some (j, e) → entry_of key sought xs ≡ Some e) → cond b (Some x) (entry_of key sought xs) ≡ Some e
-  taken_step x xs true i e h rest = ap (λ (o : Option (ℕ × X)). option_map (λ (p : ℕ × X). p.1) o) h
-  taken_step x xs false i e h rest = let n = next_taken (taken key sought xs) (i, e) h in rest n.0 n.1
-
-  -- the entry that is taken is the first that has the key
-  pub taken_is : (xs : List X) (i : ℕ) (e : X) → taken key sought xs ≡ Some (i, e) → entry_of key sought xs ≡ Some e
-  taken_is [] i e h = absurd (let z : ◌≡◌ {A = ℕ} 0 1 = cc in omega arith)
-  taken_is (x ∷ xs) i e h = taken_step x xs (eqb (key x) sought) i e h (λ j. taken_is xs j e)
-
-  untaken_step : (x : X) (xs : List X) (b : Bool) → cond {A = Option (ℕ × X)} b (Some (0, x)) (option_map (λ p. (suc p.0, p.1)) (taken key sought xs)) ≡ None → (taken key sought xs ≡ None → (entry_of key sought xs ≡ None) × (without key sought xs ≡ xs)) → (cond b (Some x) (entry_of key sought xs) ≡ None) × (cond b xs (x ∷ without key sought xs) ≡ x ∷ xs)
-  untaken_step x xs true h rest = absurd (let z : ◌≡◌ {A = ℕ} 0 1 = cc in omega arith)
-  untaken_step x xs false h rest = let r = rest (none (taken key sought xs) h) in (r.0, ap (λ ys. x ∷ ys) r.1)
-    where
-      none : (r : Option (ℕ × X)) → option_map {U = ℕ × X} (λ q. (suc q.0, q.1)) r ≡ None → r ≡ None
-      none None e = refl
-      none (Some q) e = absurd (let z : ◌≡◌ {A = ℕ} 0 1 = cc in omega arith)
-
-  -- where none is taken none has the key, and all stay
-  pub untaken : (xs : List X) → taken key sought xs ≡ None → (entry_of key sought xs ≡ None) × (without key sought xs ≡ xs)
-  untaken [] h = (refl, refl)
-  untaken (x ∷ xs) h = untaken_step x xs (eqb (key x) sought) h (untaken xs)

@@ -29,11 +29,6 @@ abbrev pub altered : {X : Type 0} → (X → ℕ) → ℕ → (X → X) → List
 altered key sought alter [] = []
 altered key sought alter (x ∷ xs) = if key x == sought then alter x ∷ xs else x ∷ altered key sought alter xs
 
--- the first entry of a list is taken out, if it has one
-abbrev pub First : {X : Type 0} → List X → Option X → List X → Type 0
-First before None after = (before ≡ []) × (after ≡ [])
-First before (Some x) after = before ≡ x ∷ after
-
 -- no two entries have the same key
 abbrev pub Distinct : {X : Type 0} → (X → ℕ) → List X → Type 0
 Distinct key [] = Unit {0}

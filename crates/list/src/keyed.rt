@@ -1,6 +1,6 @@
 //! Entries that have a key, and the one removal by key.
 ghost use Rattle.std.specs.Prelude.{◌≡◌, ℕ, ◌<◌, length, IfSome};
-ghost use Rattle.list.specs.Keyed.{entry_of, First, index_of, moved, taken, without};
+ghost use Rattle.list.specs.Keyed.{entry_of, index_of, moved, taken, without};
 ghost use Rattle.std.specs.Option.{option_copied};
 
 use arrayvec::ArrayVec;
@@ -71,13 +71,4 @@ pub fn take<T: Keyed + Default + Drop, const N: usize>(
     let index = take_out(list.as_mut_slice(), sought)?;
     let entry = list.pop()?;
     Some((index, entry))
-}
-
-/// Takes the first entry out of a list; the others keep their order. Where there is none, nothing is answered.
-pub fn take_first<T: Keyed + Default + Drop, const N: usize>(list: &mut ArrayVec<T, N>) -> Option<T>
-    ensures { First list.old.items result list.new.items }
-{
-    let key = list.first()?.key_of();
-    let (_, entry) = take(list, key)?;
-    Some(entry)
 }

@@ -35,11 +35,6 @@ no_counts = record {
   come_out = λ u e. e;
 }
 
--- what counts as 1 is so
-one_so : (b : Bool) → one_if b ≡ 0 → b ≡ false
-one_so true e = absurd (omega arith)
-one_so false e = refl
-
 none_times_out : (t : ℕ) (b c : Bool) → t + one_if b ≡ one_if c → c ≡ false → (t ≡ 0) × (b ≡ false)
 none_times_out t true c e f = absurd (let z : one_if c ≡ 0 = ap one_if f in omega arith)
 none_times_out t false c e f = let z : one_if c ≡ 0 = ap one_if f in (omega arith, refl)

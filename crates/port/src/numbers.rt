@@ -1,5 +1,5 @@
 //! The numbers that a port gives to requests, and those that are out.
-ghost use Rattle.std.specs.Prelude.{◌≡◌, ◌+◌, ◌-◌, length, None, slice_get};
+ghost use Rattle.std.specs.Prelude.{◌≡◌, ◌+◌, ◌-◌, length, None, Some, slice_get};
 ghost use Rattle.list.specs.Keyed.{altered};
 ghost use Rattle.port.specs.Numbers.{answered, answered_number, held, new_numbers, number_for, out_number, refusal_of, Redeems, with_given};
 
@@ -104,11 +104,21 @@ impl Numbers {
     }
 
     /// Holds an answer of the hierarchy for its number, and tells which number that is. The answer to no number is dropped.
+    #[inline]
     pub(crate) fn hold(&mut self, answer: Option<Answer>, line: [u8; 16]) -> Option<u32>
         ensures number { result ≡ answered_number answer self.old }
         ensures after { self.new ≡ held answer line self.old }
     {
-        let answer = answer?;
+        // most steps bring no answer
+        self.hold_answer(answer?, line)
+    }
+
+    // The same for a step that brings one. It stays a call, so that one that brings none does not pay for its frame.
+    #[inline(never)]
+    fn hold_answer(&mut self, answer: Answer, line: [u8; 16]) -> Option<u32>
+        ensures number { result ≡ answered_number (Some answer) self.old }
+        ensures after { self.new ≡ held (Some answer) line self.old }
+    {
         let number = self.number_for(answer.ticket)?;
         self.put_answer(number, answer.status, line);
         // there is room, since no more answers have come than numbers are out
