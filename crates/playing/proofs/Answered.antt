@@ -2,6 +2,7 @@
 use Rattle.std.proofs.Common.{◌≡◌, ◌≢◌, ℕ, zero, suc, ◌+◌, ◌-◌, ◌*◌, ◌/◌, ◌%◌, ◌<◌, ◌≤◌, Bool, true, false, cond, not, List, [], ◌∷◌, ◌++◌, length, map, is_none, ◌&&◌, slice_index, Some, None, Option, Ok, Err, sym, refl, ap, ap₂, ◌∙◌, subst, append-nil, arith, eq-eqb, ne_eqb}
 use Rattle.std.specs.Prelude.{filter, nat_le, IsPermutation}
 use Rattle.std.proofs.lemmas.List.{map-append}
+use Rattle.std.proofs.lemmas.List.Sorted.{IsPermutation-pop_more}
 use Rattle.line.specs.Size.{line_size}
 use Rattle.line.specs.Values.{covers, low_bytes}
 use Rattle.list.proofs.Entries.{none_some}
@@ -9,7 +10,7 @@ use Rattle.list.specs.Keyed.{without}
 use Rattle.memory.specs.Meaning.{Facts}
 use Rattle.memory.specs.declared.bad_line.BadLine.{BadLine}
 use Rattle.player.specs.Lines.{answer_line}
-use Rattle.playing.proofs.Lists.{permutation_moves, permutation_grows, map_without_permutes, map_same, filter_yes, filter_no}
+use Rattle.playing.proofs.Lists.{permutation_grows, map_without_permutes, map_same, filter_yes, filter_no}
 use Rattle.playing.proofs.Records.{behind_more, answers_more, shown_more, answer_letter}
 use Rattle.playing.proofs.Stands.{Opened, Told, behind, line_due, due_line}
 use Rattle.playing.specs.Agreement.{answers_request, cut_lines}
@@ -24,24 +25,8 @@ use Rattle.port.specs.Requests.{Verdict, unlawful_code, load_verdict, store_verd
 use Rattle.port.specs.declared.answer.Redeemed.{Redeemed}
 use Rattle.port.specs.declared.event.Event.{Event}
 use Rattle.port.specs.declared.event.Event.TheVariants.{Load, Store, Redeem}
-use Rattle.port.specs.declared.request.Unlawful.{Unlawful}
 use Rattle.trace.specs.Items.{Item, load, store}
 use Rattle.trace.specs.declared.refusal.Refusal.{Refusal}
-
--- a request that is not lawful is refused by the number that tells why
-pub refused_unlawful : (accepted : ℕ) (verdict : Verdict) (why : Unlawful) → verdict ≡ Err why → refused_by accepted verdict ≡ Some (unlawful_code why)
-refused_unlawful accepted verdict why e = ap (refused_by accepted) e
-
--- of the ration and the numbers out, it is the ration that is used
-first_used : (b c : Bool) → cond {A = Option ℕ} b (Some 22) (cond {A = Option ℕ} c (Some 21) None) ≡ Some 22 → cond {A = Option ℕ} b (Some 22) None ≡ Some 22
-first_used true c e = refl
-first_used false true e = absurd (let z : ◌≡◌ {A = ℕ} 21 22 = cc in omega arith)
-first_used false false e = absurd (none_some 22 e)
-
--- a request that fails the check of the ration is refused by its number
-pub refused_used : (log : List Event) (verdict : Verdict) → failed_check largest_ration log verdict ≡ Some 22 → refused_by (accepted log) verdict ≡ Some 22
-refused_used log (Err why) e = e
-refused_used log (Ok lawful) e = first_used (nat_le largest_ration (accepted log)) (nat_le most_out (length (out log))) e
 
 -- where neither the ration nor what is checked behind it refuses, the ration does not
 first_free : (b : Bool) (r : Option ℕ) → cond {A = Option ℕ} b (Some 22) r ≡ None → cond {A = Option ℕ} b (Some 22) None ≡ None
@@ -79,7 +64,7 @@ module _ (lines : ℕ) (bad_lines : List BadLine) (o : Facts) (opened : Opened l
             subst
             (λ k. IsPermutation (answers_of lines bad_lines at_start items) (k ++ map (due_line o log) rest))
             (sym (filter_yes answers_request written line letter))
-            (permutation_moves _ (filter answers_request written) (map (due_line o log) (out log)) (map (due_line o log) rest) line told.answers leaves);
+            (IsPermutation-pop_more _ (filter answers_request written) (map (due_line o log) (out log)) (map (due_line o log) rest) line told.answers leaves);
         others = filter_no (λ l. not (answers_request l)) written line (ap not letter) ∙ told.others;
       }
 

@@ -1,26 +1,14 @@
 -- lists with lines that are added, and numbers that leave a list
 use Rattle.std.proofs.Common.{◌≡◌, ℕ, Bool, true, false, cond, eqb, List, [], ◌∷◌, ◌++◌, map, filter, is_some, Some, IsPermutation, sym, refl, ap, ap₂, ◌∙◌, subst, append_assoc, append-nil, eq-eqb, eqb-true}
 use Rattle.std.proofs.lemmas.List.Elements.{filter-append}
-use Rattle.std.proofs.lemmas.List.Sorted.{IsPermutation-refl, IsPermutation-trans, IsPermutation-cons, IsPermutation-append_left, IsPermutation-middle, IsPermutation-pop_more}
+use Rattle.std.proofs.lemmas.List.Sorted.{IsPermutation-refl, IsPermutation-trans, IsPermutation-cons, IsPermutation-append_left, IsPermutation-middle}
 use Rattle.list.specs.Keyed.{entry_of, without}
 use Rattle.port.proofs.Lists.{true_false}
 use Rattle.port.specs.Promise.{has}
 
--- two rearrangements, one after the other, are one
-pub permutation_trans : {X : Type 0} (xs ys zs : List X) → IsPermutation xs ys → IsPermutation ys zs → IsPermutation xs zs
-permutation_trans xs ys zs first second = IsPermutation-trans xs ys zs first second
-
--- one element more behind both lists
-pub permutation_more : {X : Type 0} (x : X) (xs ys : List X) → IsPermutation xs ys → IsPermutation (xs ++ (x ∷ [])) (ys ++ (x ∷ []))
-permutation_more x xs ys same = IsPermutation-append_left (x ∷ []) xs ys same
-
--- an element that leaves the second of two lists goes to the end of the first
-pub permutation_moves : {X : Type 0} (all done left rest : List X) (x : X) → IsPermutation all (done ++ left) → IsPermutation left (x ∷ rest) → IsPermutation all ((done ++ (x ∷ [])) ++ rest)
-permutation_moves all done left rest x whole leaves = IsPermutation-pop_more all done left rest x whole leaves
-
 -- an element is added behind the second of two lists
 pub permutation_grows : {X : Type 0} (all done left : List X) (x : X) → IsPermutation all (done ++ left) → IsPermutation (all ++ (x ∷ [])) (done ++ (left ++ (x ∷ [])))
-permutation_grows all done left x whole = subst (IsPermutation (all ++ (x ∷ []))) (append_assoc done left (x ∷ [])) (permutation_more x all (done ++ left) whole)
+permutation_grows all done left x whole = subst (IsPermutation (all ++ (x ∷ []))) (append_assoc done left (x ∷ [])) (IsPermutation-append_left (x ∷ []) all (done ++ left) whole)
 
 -- numbers with one that is taken out of them, seen through any function
 pub map_without_permutes : {X : Type 0} (f : ℕ → X) (numbers : List ℕ) (n : ℕ) → has n numbers ≡ true → IsPermutation (map f numbers) (f n ∷ map f (without (λ k. k) n numbers))

@@ -158,10 +158,6 @@ module _ (lines : ℕ) (bad_lines : List BadLine) (o : Facts) where
   pub told_count : {written : List (List ℕ)} {items : List Item} {cut : Option Refusal} {log : List Event} (n : ℕ) → Told lines bad_lines o written items cut log → Told lines bad_lines o written items cut (OutCount n ∷ log)
   told_count n told = told_still (OutCount n) (λ a. refl) (λ u. refl) (omega arith) refl told
 
-  -- a question how much of the ration is left
-  pub told_left : {written : List (List ℕ)} {items : List Item} {cut : Option Refusal} {log : List Event} (n : ℕ) → Told lines bad_lines o written items cut log → Told lines bad_lines o written items cut (RationLeft n ∷ log)
-  told_left n told = told_still (RationLeft n) (λ a. refl) (λ u. refl) (omega arith) refl told
-
   -- a load that the port refuses
   pub told_not_loaded : {written : List (List ℕ)} {items : List Item} {cut : Option Refusal} {log : List Event} (size address : ℕ) (why : port_refusal.Refusal) → Told lines bad_lines o written items cut log → Told lines bad_lines o written items cut (Load size address (Err why) ∷ log)
   told_not_loaded size address why told = told_still (Load size address (Err why)) (λ a. refl) (λ u. refl) (omega arith) refl told

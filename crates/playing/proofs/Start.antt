@@ -41,9 +41,8 @@ use Rattle.trace.specs.Decode.{decode}
 use Rattle.trace.specs.Encode.{encode, in_limits, is_setup}
 use Rattle.trace.specs.Items.{Item, setup}
 use Rattle.trace.specs.Numbers.{within}
-use Rattle.trace.specs.Parsed.{Parsed, Took, Refuses}
 use Rattle.trace.specs.ReadUpTo.{start, further}
-use Rattle.trace.specs.Reading.{ended, gave, reading, from_offset}
+use Rattle.trace.specs.Reading.{gave, reading}
 use Rattle.trace.specs.declared.records.Bottom.{Bottom}
 use Rattle.trace.specs.declared.records.Bottom.TheVariants.{Ordered, Scripted}
 use Rattle.trace.specs.declared.records.Setup.{Setup}
@@ -65,14 +64,6 @@ first_given trace bytes to item e = let f = first_is trace bytes to item e in (f
 -- and it is a setup
 pub first_setup : (trace : List ℕ) → Bytes trace → (to : ℕ) (item : Item) → reading trace 0 ≡ gave item to → is_setup item ≡ true
 first_setup trace bytes to item e = (first_is trace bytes to item e).3
-
--- a trace does not end before its first record
-pub first_not_ended : (trace : List ℕ) → reading trace 0 ≡ ended → ⊥
-first_not_ended trace e = go (decode true trace) e
-  where
-    go : (p : Parsed Item) → from_offset trace 0 p ≡ ended → ⊥
-    go (Took item rest) f = absurd (let z : ◌≡◌ {A = ℕ} 0 1 = cc in omega arith)
-    go (Refuses why) f = absurd (let z : ◌≡◌ {A = ℕ} 0 1 = cc in omega arith)
 
 -- a setup within its limits names no more lines than a memory has
 few_lines : (s : Setup) (b : SetupBuffer) → setup_limits s b ≡ true → s.lines ≤ most_lines

@@ -33,10 +33,6 @@ later_is_reading trace at some inside =
     go true e = rw (le-leb (length trace) at (omega (arith, eqb-true at (length trace) e))) refl
     go false e = rw (lt-leb (length trace) at (omega (arith, eqb-false at (length trace) e))) refl
 
--- a trace that ends there or before is at its end
-pub later_over : (trace : List ℕ) (at : ℕ) → length trace ≤ at → reading_later trace at ≡ ended
-later_over trace at over = rw (le-leb (length trace) at over) refl
-
 -- a record that was given lies in the trace, takes a byte at least, and is within its limits
 pub later_given : (trace : List ℕ) → Bytes trace → (at to : ℕ) (item : Item) → reading_later trace at ≡ gave item to → (at < to) × (to ≤ length trace) × (in_limits item ≡ true) × (is_setup item ≡ false)
 later_given trace bytes at to item e =
