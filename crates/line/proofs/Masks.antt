@@ -7,10 +7,10 @@ use Rattle.line.specs.Values.{covers, value_mask}
 use Rattle.std.proofs.lemmas.Bool.Decides.{nat_tests}
 use Rattle.std.proofs.lemmas.Nat.Bits.{bit_at-zero, bit_at_ones, bit_at_ones_above, bit_at_cat_low, bit_at_cat_high, ones_shr}
 
--- a mask has no bit from 16 up
-pub no_high_bit : (mask i : ℕ) → mask < 65536 → 16 ≤ i → bit mask i ≡ false
-no_high_bit mask i small high =
-    let below : mask < 2 ^ i = omega (arith, pow_mono {i = 16} {j = i} high) in
+-- a mask of so many bits has none from there up
+pub no_high_bit : (width mask i : ℕ) → mask < 2 ^ width → width ≤ i → bit mask i ≡ false
+no_high_bit width mask i small high =
+    let below : mask < 2 ^ i = omega (arith, pow_mono {i = width} {j = i} high) in
     ap (λ n. eqb (n % 2) 1) (div-eq_of_lt below)
 
 -- bit i of a value's mask is 1 exactly where byte i is one of the value's

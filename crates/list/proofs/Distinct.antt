@@ -1,11 +1,37 @@
 -- lists in which no two entries have the same key
-use Rattle.std.proofs.Common.{◌≡◌, ℕ, zero, suc, ◌<◌, ◌≤◌, Bool, true, false, cond, eqb, List, [], ◌∷◌, ◌++◌, length, is_some as option_is_some, Some, None, Option, sym, refl, ap, ◌∙◌, arith, eq-eqb, ne_eqb, eqb-true}
+use Rattle.std.proofs.Common.{◌≡◌, ℕ, zero, suc, ◌<◌, ◌≤◌, Bool, true, false, cond, eqb, ltb, List, [], ◌∷◌, ◌++◌, length, get_or, is_some as option_is_some, Some, None, Option, sym, refl, ap, ◌∙◌, arith, eq-eqb, ne_eqb, eqb-true}
 use Rattle.list.proofs.Entries.{some_is}
-use Rattle.list.specs.Keyed.{entry_of, without, Distinct}
-use Rattle.std.proofs.lemmas.List.Folds.{find-append}
-use Rattle.std.specs.List.{slice_get}
+use Rattle.list.specs.Keyed.{index_of, entry_of, without, Distinct}
+use Rattle.std.proofs.lemmas.Bool.{ltb-true, ltb-false}
+use Rattle.std.proofs.lemmas.List.Folds.{find-append, find_at}
+use Rattle.std.proofs.lemmas.Option.{slice_get-get_or, slice_get_past}
+use Rattle.std.specs.List.{position_or_len, slice_get}
 
 module _ {X : Type 0} (key : X → ℕ) where
+  -- the entry at the index where the key was found
+  pub found_entry : (sought : ℕ) (xs : List X) (i : ℕ) (d : X) → index_of key sought xs ≡ Some i → entry_of key sought xs ≡ Some (get_or xs i d)
+  found_entry sought xs i d e = go (ltb n (length xs)) refl e
+    where
+      n : ℕ
+      n = position_or_len (λ x. eqb (key x) sought) xs
+
+      go : (b : Bool) → ltb n (length xs) ≡ b → cond b (Some n) None ≡ Some i → entry_of key sought xs ≡ Some (get_or xs i d)
+      go true t e =
+          let same : n ≡ i = cc in
+          find_at (λ x. eqb (key x) sought) xs ∙ slice_get-get_or xs n d (ltb-true n (length xs) t) ∙ ap (λ k. Some (get_or xs k d)) same
+      go false t e = absurd (let z : ◌≡◌ {A = ℕ} 0 1 = cc in omega arith)
+
+  -- where no index was found there is no entry
+  pub missed_entry : (sought : ℕ) (xs : List X) → index_of key sought xs ≡ None → entry_of key sought xs ≡ None
+  missed_entry sought xs e = go (ltb n (length xs)) refl e
+    where
+      n : ℕ
+      n = position_or_len (λ x. eqb (key x) sought) xs
+
+      go : (b : Bool) → ltb n (length xs) ≡ b → cond b (Some n) None ≡ None → entry_of key sought xs ≡ None
+      go true t e = absurd (let z : ◌≡◌ {A = ℕ} 0 1 = cc in omega arith)
+      go false t e = find_at (λ x. eqb (key x) sought) xs ∙ slice_get_past xs n (ltb-false n (length xs) t)
+
   -- behind entries without its key an entry is found
   pub push_found : (xs : List X) (y : X) → entry_of key (key y) xs ≡ None → entry_of key (key y) (xs ++ (y ∷ [])) ≡ Some y
   push_found xs y e = find-append (λ x. eqb (key x) (key y)) xs (y ∷ []) ∙ (rw e (rw (eq-eqb (key y) (key y) refl) refl))

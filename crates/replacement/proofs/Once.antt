@@ -76,9 +76,9 @@ module _ (g : Geometry) (rows : List (List ℕ)) (i way : ℕ) (order rest : Lis
   row_moved : take g.ways (order ++ rest) ≡ moved_to_end way (take g.ways (get_or rows i []))
   row_moved = take_at order rest g.ways long ∙ after
 
-  -- each way still stands once in each set
-  pub once_moved : ((k : ℕ) → k < g.sets → EachOnce g.ways (take g.ways (get_or rows k []))) → i < length rows → (k : ℕ) → k < g.sets → EachOnce g.ways (take g.ways (get_or (set rows i (order ++ rest)) k []))
-  once_moved once there k below w =
+  -- each way still stands once in each of so many sets
+  pub once_moved : (n : ℕ) → ((k : ℕ) → k < n → EachOnce g.ways (take g.ways (get_or rows k []))) → i < length rows → (k : ℕ) → k < n → EachOnce g.ways (take g.ways (get_or (set rows i (order ++ rest)) k []))
+  once_moved n once there k below w =
       ⊎_elim
       (λ same.
       ap (λ j. times w (take g.ways (get_or (set rows i (order ++ rest)) j []))) same

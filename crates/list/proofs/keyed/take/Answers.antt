@@ -16,4 +16,4 @@ returns g c =
     let zs = c.take_out.new.entries in
     let long : length zs ≡ length xs = search rules in
     let s = last_taken g.T.Keyed.key c.args.sought xs c.as_mut_slice.result.now zs c.in_ok-index.index c.pop.new.self.items c.in_ok-entry.entry c.as_mut_slice.ensures.value c.in_ok-index.ensures.index c.take_out.ensures.after (sym (refill_same xs zs long) ∙ c.in_ok-entry.ensures.items) in
-    record { value = s.0; after = s.1 }
+    record { value = search rules; after = s.1 }

@@ -23,4 +23,4 @@ invariant_of-self c =
     let long : length c.take_out.new.entries ≡ g.ways = search rules in
     let row : c.in-Some.row ≡ get_or s.rows c.args.set [] = search rules in
     let after = c.take_out.ensures.after ∙ ap (λ r. moved_to_end c.args.way (take g.ways r)) row in
-    record { once = once_moved g s.rows c.args.set c.args.way _ _ long after s.once there }
+    record { once = once_moved g s.rows c.args.set c.args.way _ _ long after g.sets s.once there }
