@@ -27,11 +27,11 @@ use Rattle.trace.specs.Encode.{bottom_bytes, bad_line_bytes, level_bytes, levels
 use Rattle.trace.proofs.NumberSpelled.{Bytes, bytes_after, took_as, never, number_spelled, number_back}
 
 -- what was read is written as the same bytes, and lies within its limits
-abbrev Back : {X : Type 0} → (List ℕ → Parsed X) → (X → List ℕ) → (X → Bool) → Type 0
+abbrev pub Back : {X : Type 0} → (List ℕ → Parsed X) → (X → List ℕ) → (X → Bool) → Type 0
 Back {X} p e ok = (bs : List ℕ) → Bytes bs → (x : X) (rest : List ℕ) → p bs ≡ Took x rest → (bs ≡ e x ++ rest) × (ok x ≡ true)
 
 -- what is written reads back as itself
-abbrev Forth : {X : Type 0} → (List ℕ → Parsed X) → (X → List ℕ) → (X → Bool) → Type 0
+abbrev pub Forth : {X : Type 0} → (List ℕ → Parsed X) → (X → List ℕ) → (X → Bool) → Type 0
 Forth {X} p e ok = (x : X) (rest : List ℕ) → ok x ≡ true → p (e x ++ rest) ≡ Took x rest
 
 -- the first of two values that were taken one after the other
@@ -113,12 +113,12 @@ join : {bs m : List ℕ} (a b r : List ℕ) → bs ≡ a ++ m → m ≡ b ++ r �
 join a b r p q = p ∙ ap (λ l. a ++ l) q ∙ sym (append_assoc a b r)
 
 -- a value that is written and read: both ways
-record Codec (X : Type 0) : Type 0 where
-  read : List ℕ → Parsed X
-  write : X → List ℕ
-  ok : X → Bool
-  back : Back read write ok
-  forth : Forth read write ok
+pub record Codec (X : Type 0) : Type 0 where
+  pub read : List ℕ → Parsed X
+  pub write : X → List ℕ
+  pub ok : X → Bool
+  pub back : Back read write ok
+  pub forth : Forth read write ok
 
 -- a part that is written before others reads back, and what follows from it goes on behind it
 forth_then : {X Y : Type 0} (k : Codec X) (x : X) → k.ok x ≡ true → (tail rest : List ℕ) (f : X → List ℕ → Parsed Y) → and_then (k.read ((k.write x ++ tail) ++ rest)) f ≡ f x (tail ++ rest)

@@ -8,7 +8,7 @@ mod ReadFrom
 mod Next
 pub mod Runs
 pub mod Later
-mod Groups
-mod Sizes
-mod Grown
+pub mod Groups
+pub mod Sizes
+pub mod Grown
 mod Fronts

@@ -15,10 +15,10 @@ pub bytes_after : (xs ys : List ℕ) → Bytes (xs ++ ys) → Bytes ys
 bytes_after [] ys h = h
 bytes_after (x ∷ xs) ys h = bytes_after xs ys (λ k. h (suc k))
 
-took_value : {X : Type 0} {x y : X} {m r : List ℕ} → Took x m ≡ Took y r → x ≡ y
+pub took_value : {X : Type 0} {x y : X} {m r : List ℕ} → Took x m ≡ Took y r → x ≡ y
 took_value e = cc
 
-took_rest : {X : Type 0} {x y : X} {m r : List ℕ} → Took x m ≡ Took y r → m ≡ r
+pub took_rest : {X : Type 0} {x y : X} {m r : List ℕ} → Took x m ≡ Took y r → m ≡ r
 took_rest e = cc
 
 -- what holds of what was taken holds of it under its other names

@@ -1,6 +1,7 @@
--- whole traces: what is written reads back as the same records
-use Rattle.std.proofs.Common.{◌≡◌, ℕ, Bool, true, false, List, [], ◌∷◌, ◌++◌, sym, ap, ◌∙◌, subst, append_assoc}
+-- whole traces: what was read is written as the same bytes, and what is written reads back as the same records
+use Rattle.std.proofs.Common.{◌≡◌, ℕ, Bool, true, false, List, [], ◌∷◌, ◌++◌, sym, refl, ap, ◌∙◌, subst, append_assoc}
 use Rattle.std.proofs.lemmas.List.{append-nil}
+use Rattle.std.specs.List.{flat_map}
 use Rattle.trace.specs.Decode.{decode}
 use Rattle.trace.specs.Encode.{encode, in_limits, is_setup}
 use Rattle.trace.specs.Items.{Item}
@@ -8,6 +9,13 @@ use Rattle.trace.specs.Parsed.{Took}
 use Rattle.trace.specs.Trace.{ConsistsOf, finished, another, Trace}
 use Rattle.trace.proofs.NumberSpelled.{Bytes, bytes_after}
 use Rattle.trace.proofs.Laws.{decode_back, decode_forth}
+
+-- the bytes of records that were read are the bytes that they were read from
+pub reads_written : {f : Bool} {bs : List ℕ} {items : List Item} → Bytes bs → ConsistsOf f bs items → bs ≡ flat_map encode items
+reads_written h finished = refl
+reads_written h (another {first} {bs} {rest} {item} {items} e more) =
+    let d = decode_back first bs h item rest e in
+    d.0 ∙ ap (λ l. encode item ++ l) (reads_written (bytes_after (encode item) rest (subst Bytes d.0 h)) more)
 
 decoded_before : (f : Bool) (bs : List ℕ) (item : Item) (rest more : List ℕ) → Bytes bs → decode f bs ≡ Took item rest → decode f (bs ++ more) ≡ Took item (rest ++ more)
 decoded_before f bs item rest more h e =

@@ -174,8 +174,10 @@ pub(crate) fn read_later_record(trace: &[u8], at: usize) -> Later<'_>
 }
 
 /// The record that begins at an offset, the caller's buffer after it, and the bytes behind it.
-/// At offset 0 a setup is due, and nowhere else; past the trace's end there is nothing.
-pub(crate) fn read_record(trace: &[u8], at: usize, buffer: SetupBuffer) -> Read<'_>
+/// At offset 0 a setup is due, and nowhere else; at the trace's end and past it there is nothing (`Truncated`).
+/// The kind is checked first, then that it is due there (`Misplaced`), then field by field.
+/// A record that was read is written as the bytes that it was read from.
+pub fn read_record(trace: &[u8], at: usize, buffer: SetupBuffer) -> Read<'_>
     ensures value { seen result ≡ record_onto buffer (at == 0) (drop at trace.now) }
     ensures noted { NotedRead (length trace.now) result }
     ensures read_back { IfOk result (λ s. (drop at trace.now ≡ encode (item_of s.0.0 s.0.1) ++ s.1.now) × (in_limits (item_of s.0.0 s.0.1) ≡ true)) }

@@ -5,6 +5,7 @@ ghost use Rattle.std.specs.List.{list_all};
 ghost use Rattle.trace.specs.Decode.{printable};
 ghost use Rattle.trace.specs.Encode.{bottom_in_limits, bad_line_in_limits, bad_lines_in_limits, level_in_limits, in_limits};
 ghost use Rattle.trace.specs.Items.{item_of, script_of};
+ghost use Rattle.trace.specs.Numbers.{within};
 
 use crate::limits::{
     FIRST_PRINTABLE, HIGHEST_ADDRESS, HIGHEST_BAD_LINE, HIGHEST_CAUSE, HIGHEST_NUMBER,
@@ -16,12 +17,19 @@ use list::slices::{all_zero, front};
 use memory::bad_line::BadLine;
 use memory::limits::{LONGEST_LATENCY, LONGEST_SCRIPT, MOST_BAD_LINES, MOST_LINES};
 
+/// Whether each of these bytes lies between two limits, both counted.
+// Two numbers and no `RangeInclusive`, which may be used up and is one case more in each contract.
+pub fn all_within(bytes: &[u8], low: u8, high: u8) -> bool
+    ensures { result ≡ list_all (within low high) bytes.now }
+{
+    bytes.iter().all(|byte| (low..=high).contains(byte))
+}
+
 /// Whether a note may hold each of these bytes.
 pub(crate) fn is_printable(text: &[u8]) -> bool
     ensures { result ≡ list_all printable text.now }
 {
-    text.iter()
-        .all(|byte| (FIRST_PRINTABLE..=LAST_PRINTABLE).contains(byte))
+    all_within(text, FIRST_PRINTABLE, LAST_PRINTABLE)
 }
 
 fn level_in_limits(level: Level) -> bool

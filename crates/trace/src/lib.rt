@@ -2,13 +2,13 @@
 #![tactic(auto)]
 
 pub mod copying;
-mod decoding;
+pub mod decoding;
 mod encoding;
 mod encoding_setup;
 mod fields;
 pub mod in_limits;
 pub mod limits;
-mod numbers;
+pub mod numbers;
 pub mod reader;
 pub mod records;
 pub mod refusal;

@@ -39,9 +39,12 @@ fn read_groups(bytes: &[u8], last: usize) -> Option<u64>
     Some(value)
 }
 
-/// The number at the front, and the bytes after it. Most numbers have one byte.
+/// The number at the front, and the bytes after it.
+///
+/// Refuses bytes of which none ends the number (`Truncated`), then a number that is not in its shortest form or is too large (`Number`).
+// Most numbers have one byte, which is read at once.
 #[inline]
-pub(crate) fn read_number(bytes: &[u8]) -> Result<(u64, &[u8]), Refusal>
+pub fn read_number(bytes: &[u8]) -> Result<(u64, &[u8]), Refusal>
     ensures value { parsed result ≡ number bytes.now }
     ensures shorter { IfOk result (λ p. length p.1.now < length bytes.now) }
 {

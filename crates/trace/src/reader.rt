@@ -1,6 +1,6 @@
 //! The reader of a trace: it stands on the trace's bytes and gives one record after another.
 ghost use Rattle.std.specs.Prelude.{◌≡◌, ◌≤◌, length};
-ghost use Rattle.trace.specs.Reading.{reading_later, later_outcome, NotedLater};
+ghost use Rattle.trace.specs.Reading.{reading_later, later_outcome, NotedLater, ReadBack};
 
 use crate::decoding::{read_later_record, read_record};
 use crate::records::{Record, SetupBuffer};
@@ -16,7 +16,7 @@ pub struct Reader<'a> {
 
 impl<'a> Reader<'a> {
     ghost use Rattle.trace.specs.Reader.{trace_of, next_offset};
-    ghost use Rattle.trace.specs.Reading.{is_over, reading, outcome, offset_after, filled_after, NotedIn, ReadBack};
+    ghost use Rattle.trace.specs.Reading.{is_over, reading, outcome, offset_after, filled_after, NotedIn};
 
     /// A reader at the front of a trace.
     pub fn new(trace: &'a [u8]) -> Reader<'a>
@@ -63,10 +63,12 @@ impl<'a> Reader<'a> {
 }
 
 /// The record that begins at an offset behind the first record, and the offset behind it. A trace that ends there or before is at its end.
+/// A record that was read is written as the bytes that it was read from.
 // No setup stands there, so no buffer goes in or comes out.
 pub fn read_later(trace: &[u8], offset: usize) -> Result<Option<(Record<'_>, usize)>, Refusal>
     ensures value { later_outcome offset result ≡ reading_later trace.now offset }
     ensures noted { NotedLater result }
+    ensures read_back { offset ≤ length trace.now → ReadBack trace.now offset (later_outcome offset result) }
 {
     if offset >= trace.len() {
         return Ok(None);
