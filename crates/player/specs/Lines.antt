@@ -1,5 +1,5 @@
 -- the lines of a listing, byte by byte
-use Rattle.std.specs.Prelude.{◌≡◌, ℕ, ◌+◌, ◌≤◌, List, [], ◌∷◌, ◌++◌, length, codes, decimal, Some, None, Option}
+use Rattle.std.specs.Prelude.{◌≡◌, ℕ, ◌+◌, ◌<◌, ◌≤◌, List, [], ◌∷◌, ◌++◌, length, codes, decimal, Some, None, Option}
 use Rattle.std.specs.List.{flat_map}
 use Rattle.std.specs.Option.{option_map}
 use Rattle.player.specs.Limits.{line_room}
@@ -66,3 +66,8 @@ line_bytes (Some line) = line
 -- a line, or none, was put at the front of a buffer, and so many bytes were written
 abbrev pub Writes : Option (List ℕ) → List ℕ → ℕ → List ℕ → Type 0
 Writes line before count after = (count ≡ length (line_bytes line)) × (after ≡ onto (line_bytes line) before)
+
+-- a line was put at the front of a buffer that has room for all of it; else nothing was written, and the buffer is as it was
+abbrev pub WritesWhole : List ℕ → List ℕ → Option ℕ → List ℕ → Type 0
+WritesWhole line before (Some count) after = (length line ≤ length before) × Writes (Some line) before count after
+WritesWhole line before None after = (length before < length line) × (after ≡ before)

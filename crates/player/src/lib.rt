@@ -4,7 +4,7 @@
 mod faulty;
 mod image;
 pub mod limits;
-mod listing;
+pub mod listing;
 pub mod player;
 mod progress;
 mod session;

@@ -1,15 +1,16 @@
 //! The lines of a listing, and how they are written.
 ghost use Rattle.player.specs.Limits.{line_room};
-ghost use Rattle.player.specs.Lines.{answer_line, number_line, note_line, shown, Short, Writes};
+ghost use Rattle.player.specs.Lines.{answer_line, number_line, note_line, shown, Short, Writes, WritesWhole};
 ghost use Rattle.std.specs.Prelude.{◌≡◌, ◌+◌, ◌≤◌, [], ◌∷◌, ◌++◌, length, take, drop, Some};
 ghost use Rattle.trace.specs.Filled.{onto};
 
+use crate::limits::LINE_ROOM;
 use port::answer::Redeemed;
 
 /// A line of a listing.
 // Not `Display`, which prints text alone: a note may have any bytes.
 #[derive(Clone, Copy)]
-pub(crate) enum Line<'t> {
+pub enum Line<'t> {
     /// A number was redeemed for this.
     Answer { number: u32, redeemed: Redeemed },
     /// A record was refused by a number.
@@ -18,11 +19,35 @@ pub(crate) enum Line<'t> {
     /// A note of the trace, as it stands there.
     Note { text: &'t [u8] },
     /// The end: how many requests were accepted, and how many steps were made.
-    End { accepted: u32, steps: u64 },
+    End { accepted: u64, steps: u64 },
 }
 
 impl Line<'_> {
     /// Puts the line at the front of a buffer, and answers how many bytes it has.
+    /// Answers nothing and changes nothing where the buffer has fewer bytes than the line.
+    pub fn text(&self, buffer: &mut [u8]) -> Option<usize>
+        ensures { WritesWhole (shown self.now) buffer.old result buffer.new }
+    {
+        match *self {
+            Line::Note { text } => note_text(buffer, text),
+            _ => self.numbers_text(buffer),
+        }
+    }
+
+    // The same of a line of numbers, which has at most 128 bytes. It is written apart first, since the buffer may be shorter.
+    fn numbers_text(&self, buffer: &mut [u8]) -> Option<usize>
+        requires { Short self.now }
+        ensures { WritesWhole (shown self.now) buffer.old result buffer.new }
+    {
+        let mut line = [0; LINE_ROOM];
+        let length = self.write(&mut line);
+        if buffer.len() < length {
+            return None;
+        }
+        Some(put(buffer, 0, &line[..length]))
+    }
+
+    /// Puts a line of at most 128 bytes at the front of a buffer of at least 128, and answers how many bytes the line has.
     pub(crate) fn write(&self, buffer: &mut [u8]) -> usize
         requires room { line_room ≤ length buffer.old }
         requires short { Short self.now }
@@ -34,11 +59,19 @@ impl Line<'_> {
                 write_numbers(buffer, b'X', &[index, u64::from(code)])
             }
             Line::Note { text } => write_note(buffer, text),
-            Line::End { accepted, steps } => {
-                write_numbers(buffer, b'E', &[u64::from(accepted), steps])
-            }
+            Line::End { accepted, steps } => { write_numbers(buffer, b'E', &[accepted, steps]) }
         }
     }
+}
+
+// Puts the line of a note at the front of a buffer, if it fits.
+fn note_text(buffer: &mut [u8], text: &[u8]) -> Option<usize>
+    ensures { WritesWhole (note_line text.now) buffer.old result buffer.new }
+{
+    if buffer.len() < text.len() + 3 {
+        return None;
+    }
+    Some(write_note(buffer, text))
 }
 
 // The line of an answer.

@@ -148,7 +148,7 @@ impl<'a> Session<'a> {
         }
         self.progress.ended = true;
         Some(Line::End {
-            accepted: LARGEST_RATION.saturating_sub(self.port.ration_left()),
+            accepted: u64::from(LARGEST_RATION.saturating_sub(self.port.ration_left())),
             steps: self.progress.steps,
         })
     }
